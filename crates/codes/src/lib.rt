@@ -1,0 +1,4 @@
+// Symbols and codes: what a code of the frame layer owes, for every kind of symbol.
+pub mod seven;
+pub mod symbols;
+pub mod words;
