@@ -1,0 +1,21 @@
+// The desk program: a script of commands in, what the library's calls answer out.
+mod numbers;
+mod script;
+
+use script::run_line;
+use std::io;
+use std::io::BufRead;
+use std::io::BufReader;
+
+fn main(rt: LibcRuntime) -> io::Result<()> {
+    let mut input = BufReader::new(rt.stdin());
+    let mut line = Vec::new(rt.alloc());
+    for _ in 0..u64::MAX {
+        line.clear();
+        if input.read_until(b'\n', &mut line)? == 0 {
+            break;
+        }
+        run_line(&rt, line.as_slice())?;
+    }
+    Ok(())
+}

@@ -1,0 +1,60 @@
+// A line of the script: its words, its command, and what is wrong with it.
+use std::alloc::AllocError;
+use std::alloc::Global;
+use std::fmt;
+use std::io;
+
+// Why a line is no command.
+#[derive(Clone, Copy, Debug)]
+pub enum Trouble {
+    NoText,
+    NoCommand,
+    NoNumber,
+    OutOfRange,
+    TooFew,
+    TooMany,
+}
+
+pub impl fmt::Display for Trouble as TroubleDisplay {
+    fn fmt<W: fmt::Write>(&self, f: &mut fmt::Formatter<W>) -> fmt::Result {
+        match self {
+            Trouble::NoText => write!(f, "the line is not text"),
+            Trouble::NoCommand => write!(f, "there is no such command"),
+            Trouble::NoNumber => write!(f, "a word is not a number of the kind asked for"),
+            Trouble::OutOfRange => write!(f, "a number is out of range"),
+            Trouble::TooFew => write!(f, "there are too few words"),
+            Trouble::TooMany => write!(f, "there are too many words"),
+        }
+    }
+}
+
+// The words of a line, which one or more spaces part.
+fn words(heap: Global, line: &str) -> Result<Vec<&str>, AllocError> {
+    let mut all = Vec::new(heap);
+    for word in line.split(' ') {
+        if !word.is_empty() {
+            all.push(word)?;
+        }
+    }
+    Ok(all)
+}
+
+// Runs one line, and prints what it does.
+pub fn run_line(rt: &LibcRuntime, line: &[u8]) -> io::Result<()> {
+    let Ok(text) = std::str::from_utf8(line) else {
+        let why = Trouble::NoText;
+        return println!(rt, "error: {why}");
+    };
+    if text.starts_with('#') {
+        return Ok(());
+    }
+    let text = text.strip_suffix('\n').unwrap_or(text);
+    let all = words(rt.alloc(), text.strip_suffix('\r').unwrap_or(text))?;
+    match all.as_slice() {
+        [] => Ok(()),
+        _ => {
+            let why = Trouble::NoCommand;
+            println!(rt, "error: {why}")
+        }
+    }
+}
