@@ -23,6 +23,14 @@ impl SevenBit {
         }
     }
 
+    // The symbol with this number, where the caller knows that there is one.
+    pub fn of(number: u8) -> Self
+        requires { ⌜ number < 128 ⌝ }
+        ensures { λ r. ⌜ r .number ≡ number ⌝ }
+    {
+        SevenBit { number }
+    }
+
     pub fn number(self) -> u8
         ensures { λ r. ⌜ r ≡ self .number ⌝ }
     {

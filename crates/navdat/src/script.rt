@@ -13,6 +13,7 @@ pub enum Trouble {
     OutOfRange,
     TooFew,
     TooMany,
+    NotThere,
 }
 
 pub impl fmt::Display for Trouble as TroubleDisplay {
@@ -24,6 +25,7 @@ pub impl fmt::Display for Trouble as TroubleDisplay {
             Trouble::OutOfRange => write!(f, "a number is out of range"),
             Trouble::TooFew => write!(f, "there are too few words"),
             Trouble::TooMany => write!(f, "there are too many words"),
+            Trouble::NotThere => write!(f, "there is no number of that place"),
         }
     }
 }

@@ -1,0 +1,3 @@
+pub mod Axis
+pub mod LowFirst
+pub mod Streams

@@ -1,0 +1,3 @@
+pub mod Carries
+pub mod MisRecords
+pub mod ReadBack

@@ -1,0 +1,4 @@
+pub mod Carrying
+pub mod Faults
+pub mod MisStream
+pub mod Reading

@@ -1,0 +1,14 @@
+// A stream's symbols on cells and back, and the MIS whole.
+mod carrying;
+mod fault;
+mod mis;
+
+pub use carrying::Reading;
+pub use carrying::carry;
+pub use carrying::decide_word;
+pub use fault::ReachFault;
+pub use fault::RecordFault;
+pub use fault::StreamFault;
+pub use mis::MisTrace;
+pub use mis::read_mis;
+pub use mis::write_mis;

@@ -1,0 +1,4 @@
+pub mod Bits
+pub mod Remainders
+pub mod Sequences
+pub mod MisLaws

@@ -1,0 +1,4 @@
+pub mod Bits
+pub mod Crc
+pub mod Scrambling
+pub mod Mis
