@@ -1,6 +1,8 @@
 // The desk program: a script of commands in, what the library's calls answer out.
+mod mis;
 mod numbers;
 mod script;
+mod text;
 
 use script::run_line;
 use std::io;

@@ -1,16 +1,27 @@
 // The numbers of a script: decimal, with `-` in front of a negative one.
 use crate::script::Trouble;
 
-// A whole number within bounds.
-pub fn number(word: &str, least: i64, most: i64) -> Result<i64, Trouble> {
+// A number from 0 to `most`.
+pub fn natural(word: &str, most: u32) -> Result<u32, Trouble> {
     if word.starts_with('+') {
         return Err(Trouble::NoNumber);
     }
-    let Ok(n) = word.parse::<i64>() else {
+    let Ok(n) = word.parse::<u32>() else {
         return Err(Trouble::NoNumber);
     };
-    if n < least || n > most {
+    if n > most {
         return Err(Trouble::OutOfRange);
     }
+    Ok(n)
+}
+
+// A number of a cell.
+pub fn signed(word: &str) -> Result<i16, Trouble> {
+    if word.starts_with('+') {
+        return Err(Trouble::NoNumber);
+    }
+    let Ok(n) = word.parse::<i16>() else {
+        return Err(Trouble::NoNumber);
+    };
     Ok(n)
 }

@@ -1,4 +1,5 @@
 // A line of the script: its words, its command, and what is wrong with it.
+use crate::mis::run_mis;
 use std::alloc::AllocError;
 use std::alloc::Global;
 use std::fmt;
@@ -41,22 +42,32 @@ fn words(heap: Global, line: &str) -> Result<Vec<&str>, AllocError> {
     Ok(all)
 }
 
+fn print_trouble(rt: &LibcRuntime, why: Trouble) -> io::Result<()> {
+    println!(rt, "error: {why}")
+}
+
+// Runs the words of a line.
+fn run_words(rt: &LibcRuntime, words: &[&str]) -> io::Result<()> {
+    let done = match words {
+        [] => Ok(()),
+        ["mis", rest @ ..] => run_mis(rt, rest)?,
+        _ => Err(Trouble::NoCommand),
+    };
+    match done {
+        Ok(()) => Ok(()),
+        Err(why) => print_trouble(rt, why),
+    }
+}
+
 // Runs one line, and prints what it does.
 pub fn run_line(rt: &LibcRuntime, line: &[u8]) -> io::Result<()> {
     let Ok(text) = std::str::from_utf8(line) else {
-        let why = Trouble::NoText;
-        return println!(rt, "error: {why}");
+        return print_trouble(rt, Trouble::NoText);
     };
     if text.starts_with('#') {
         return Ok(());
     }
     let text = text.strip_suffix('\n').unwrap_or(text);
     let all = words(rt.alloc(), text.strip_suffix('\r').unwrap_or(text))?;
-    match all.as_slice() {
-        [] => Ok(()),
-        _ => {
-            let why = Trouble::NoCommand;
-            println!(rt, "error: {why}")
-        }
-    }
+    run_words(rt, all.as_slice())
 }
