@@ -4,3 +4,4 @@ pub mod field;
 mod mend;
 pub mod mis;
 mod polynomials;
+pub mod tis;
