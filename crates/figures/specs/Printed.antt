@@ -11,12 +11,12 @@ use Rattle.cells.specs.declared.cell.Order.the-variants.{Four}
 use Rattle.reed_solomon.specs.Field.{times}
 use Rattle.reed_solomon.specs.Generators.{generatorOf}
 use Rattle.reed_solomon.specs.Words.{wordOf}
-use Rattle.streams.specs.Crc.{crc8Of}
-use Rattle.streams.specs.Scrambling.{scrambled}
-use Rattle.streams.specs.declared.mode.DataConstellation.the-variants.{Qam4 as DataQam4}
-use Rattle.streams.specs.declared.mode.Mis.{Mis}
-use Rattle.streams.specs.declared.mode.Occupancy.the-variants.{Khz1}
-use Rattle.streams.specs.declared.mode.TisConstellation.the-variants.{Qam4 as TisQam4}
+use Rattle.bits.specs.Crc.{crc8Of}
+use Rattle.bits.specs.Scrambling.{scrambled}
+use Rattle.modes.specs.declared.mode.DataConstellation.the-variants.{Qam4 as DataQam4}
+use Rattle.modes.specs.declared.mode.Mis.{Mis}
+use Rattle.modes.specs.declared.mode.Occupancy.the-variants.{Khz1}
+use Rattle.modes.specs.declared.mode.TisConstellation.the-variants.{Qam4 as TisQam4}
 use Rattle.modem.specs.MisStream.{misMessage, misCells}
 
 -- a cell by its two numbers, whose sizes are 256

@@ -1,7 +1,7 @@
 // The check value of a CRC that catalogues print: that of the ASCII digits 1 to 9.
+use bits::crc8;
+use bits::write_number;
 use std::test::*;
-use streams::crc8;
-use streams::write_number;
 
 fn write_bytes(bytes: &[u8], bits: &mut [bool]) {
     for i in 0..bytes.len().min(bits.len() / 8) {

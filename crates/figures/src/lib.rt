@@ -8,13 +8,13 @@ use cells::Qam;
 use cells::QamConstellation;
 use modem::MisTrace;
 use modem::write_mis;
+use modes::DataConstellation;
+use modes::Mis;
+use modes::Occupancy;
+use modes::TisConstellation;
 use reed_solomon::mis::MisReedSolomon;
 use reed_solomon::mis::MisReedSolomonLengths;
 use reed_solomon::mis::MisReedSolomonSending;
-use streams::DataConstellation;
-use streams::Mis;
-use streams::Occupancy;
-use streams::TisConstellation;
 
 #[cfg(test)]
 mod checks;

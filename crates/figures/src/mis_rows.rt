@@ -4,15 +4,15 @@ use cells::Qam;
 use cells::QamConstellation;
 use modem::read_mis;
 use modem::write_mis;
+use modes::DataConstellation;
+use modes::Mis;
+use modes::Occupancy;
+use modes::TisConstellation;
 use reed_solomon::mis::MisReedSolomon;
 use reed_solomon::mis::MisReedSolomonLengths;
 use reed_solomon::mis::MisReedSolomonMending;
 use reed_solomon::mis::MisReedSolomonSending;
 use std::test::*;
-use streams::DataConstellation;
-use streams::Mis;
-use streams::Occupancy;
-use streams::TisConstellation;
 
 struct Row {
     mode: [u32; 3],

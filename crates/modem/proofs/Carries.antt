@@ -12,10 +12,10 @@ use Rattle.cells.specs.Cells.{Steady}
 use Rattle.cells.specs.Mapping.{Moved, decidedBits}
 use Rattle.cells.specs.declared.cell.Cell.{Cell}
 use Rattle.cells.proofs.Streams.{steady-stream}
-use Rattle.streams.specs.Bits.{cut, spread, numberOf}
-use Rattle.streams.specs.Scrambling.{scrambled}
-use Rattle.streams.proofs.Bits.{length-spread, spread-cut, cut-spread-128}
-use Rattle.streams.proofs.Sequences.{scrambled-scrambled, length-scrambled}
+use Rattle.bits.specs.Bits.{cut, spread, numberOf}
+use Rattle.bits.specs.Scrambling.{scrambled}
+use Rattle.bits.proofs.Bits.{length-spread, spread-cut, cut-spread-128}
+use Rattle.bits.proofs.Sequences.{scrambled-scrambled, length-scrambled}
 use Rattle.modem.specs.Carrying.{messageOf, recordOf, cellsOf, symbolsOf}
 
 -- only the bits that are cut count

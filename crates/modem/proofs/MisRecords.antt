@@ -3,11 +3,11 @@ use mathlib.Core.Path.{_≡_, refl}
 use native.Mathlib.Omega.{arith}
 use lib.ListN.{length, length-append}
 use Rattle.std.specs.declared.result.Result.the-variants.{Ok}
-use Rattle.streams.specs.Bits.{bitsOf}
-use Rattle.streams.specs.Crc.{crc8Of}
+use Rattle.bits.specs.Bits.{bitsOf}
+use Rattle.bits.specs.Crc.{crc8Of}
 use Rattle.streams.specs.Mis.{misFields, misRecord, misRead}
-use Rattle.streams.specs.declared.mode.Mis.{Mis}
-use Rattle.streams.proofs.Bits.{length-bitsOf}
+use Rattle.modes.specs.declared.mode.Mis.{Mis}
+use Rattle.bits.proofs.Bits.{length-bitsOf}
 use Rattle.streams.proofs.MisLaws.{length-misFields, misRead-exactly}
 
 pub length-misRecord : (m : Mis) → length (misRecord m) ≡ 14

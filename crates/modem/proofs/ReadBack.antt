@@ -14,10 +14,10 @@ use Rattle.codes.proofs.Mends.{one-within}
 use Rattle.cells.specs.Cells.{Steady}
 use Rattle.cells.specs.Mapping.{Moved, decidedBits}
 use Rattle.cells.specs.declared.cell.Cell.{Cell}
-use Rattle.streams.specs.Scrambling.{scrambled}
+use Rattle.bits.specs.Scrambling.{scrambled}
 use Rattle.streams.specs.declared.records.BadRecord.{BadRecord}
-use Rattle.streams.proofs.Bits.{length-cut, cut-below-128}
-use Rattle.modem.specs.Carrying.{messageOf, recordOf, cellsOf, symbolsOf}
+use Rattle.bits.proofs.Bits.{length-cut, cut-below-128}
+use Rattle.modem.specs.Carrying.{ToldApart, messageOf, recordOf, cellsOf, symbolsOf}
 use Rattle.modem.specs.Reading.{RecordMended, StreamWithin, StreamAnswer, ReadsBack, wrongSymbols}
 use Rattle.modem.specs.declared.carrying.Reading.{Reading}
 use Rattle.modem.specs.declared.fault.StreamFault.{StreamFault}
@@ -49,16 +49,10 @@ stated-within k n word reach decided recordBits cells m bits e r is of w =
     let same : messageOf k (recordBits r) ≡ m = ap (messageOf k) (sym is ∙ of) ∙ message-back k m (w .size) (w .below) in
     rw same w
 
-module _ (k n : ℕ) (word : List ℕ → List ℕ) (distance reach : ℕ) (point : List Bool → Cell) (decided : Cell → List Bool) (width count : ℕ)
-    {R : Type 0} (recordBits : R → List Bool) (readBits : List Bool → Result R BadRecord)
+-- a stream's records: as long as the message's symbols, and read as they were written
+module _ (k : ℕ) {R : Type 0} (recordBits : R → List Bool) (readBits : List Bool → Result R BadRecord)
     (record-size : (r : R) → length (recordBits r) ≡ k * 7)
-    (back : (r : R) → readBits (recordBits r) ≡ Ok r)
-    (sized : (m : List ℕ) → length m ≡ k → length (word m) ≡ n)
-    (below : (m : List ℕ) → length m ≡ k → Below128 (λ (x : ℕ). x) m → Below128 (λ (x : ℕ). x) (word m))
-    (distant : (m o : List ℕ) → length m ≡ k → length o ≡ k → Below128 (λ (x : ℕ). x) m → Below128 (λ (x : ℕ). x) o → differing (λ (x : ℕ). x) (word m) (word o) < distance → m ≡ o)
-    (unique : 2 * reach < distance)
-    (steady : Steady point width decided)
-    (room : n * 7 ≤ width * count) where
+    (back : (r : R) → readBits (recordBits r) ≡ Ok r) where
   message-size : (r : R) → length (messageOf k (recordBits r)) ≡ k
   message-size r = length-cut 7 k (scrambled 0 (recordBits r))
 
@@ -76,6 +70,24 @@ module _ (k n : ℕ) (word : List ℕ → List ℕ) (distance reach : ℕ) (poin
       let f : readBits (recordOf (messageOf k (recordBits a))) ≡ readBits (recordOf (messageOf k (recordBits b))) = ap (λ l. readBits (recordOf l)) e in
       cc
 
+  -- and so do words
+  pub told-apart : (word : List ℕ → List ℕ) (distance : ℕ)
+      → ((m o : List ℕ) → length m ≡ k → length o ≡ k → Below128 (λ (x : ℕ). x) m → Below128 (λ (x : ℕ). x) o → differing (λ (x : ℕ). x) (word m) (word o) < distance → m ≡ o)
+      → (sent : R) → ToldApart recordBits k word distance sent
+  told-apart word distance distant sent other few =
+      one-stated other sent
+      (sym (distant (messageOf k (recordBits sent)) (messageOf k (recordBits other)) (message-size sent) (message-size other) (message-below sent) (message-below other) few))
+
+module _ (k n : ℕ) (word : List ℕ → List ℕ) (distance reach : ℕ) (point : List Bool → Cell) (decided : Cell → List Bool) (width count : ℕ)
+    {R : Type 0} (recordBits : R → List Bool) (readBits : List Bool → Result R BadRecord)
+    (record-size : (r : R) → length (recordBits r) ≡ k * 7)
+    (back : (r : R) → readBits (recordBits r) ≡ Ok r)
+    (sized : (m : List ℕ) → length m ≡ k → length (word m) ≡ n)
+    (below : (m : List ℕ) → length m ≡ k → Below128 (λ (x : ℕ). x) m → Below128 (λ (x : ℕ). x) (word m))
+    (distant : (m o : List ℕ) → length m ≡ k → length o ≡ k → Below128 (λ (x : ℕ). x) m → Below128 (λ (x : ℕ). x) o → differing (λ (x : ℕ). x) (word m) (word o) < distance → m ≡ o)
+    (unique : 2 * reach < distance)
+    (steady : Steady point width decided)
+    (room : n * 7 ≤ width * count) where
   -- what was sent is within reach
   sent-within : (sent : R) (near cells : List Cell) → Moved (cellsOf point width count (word (messageOf k (recordBits sent)))) near
       → wrongSymbols decided n near cells ≤ reach
@@ -83,10 +95,10 @@ module _ (k n : ℕ) (word : List ℕ → List ℕ) (distance reach : ℕ) (poin
   sent-within sent near cells moved close =
       let m = messageOf k (recordBits sent) in
       let same : symbolsOf decided n near ≡ word m =
-      symbols-near point decided width count n (word m) near steady (sized m (message-size sent)) (below m (message-size sent) (message-below sent)) room moved in
+      symbols-near point decided width count n (word m) near steady (sized m (message-size k recordBits readBits record-size back sent)) (below m (message-size k recordBits readBits record-size back sent) (message-below k recordBits readBits record-size back sent)) room moved in
       record {
-        size = message-size sent;
-        below = message-below sent;
+        size = message-size k recordBits readBits record-size back sent;
+        below = message-below k recordBits readBits record-size back sent;
         places = ap (λ l. differing (λ (x : ℕ). x) l (symbolsOf decided n cells)) (sym same);
         near = close;
       }
@@ -100,7 +112,7 @@ module _ (k n : ℕ) (word : List ℕ → List ℕ) (distance reach : ℕ) (poin
   reads-back cells (Ok got) a sent near moved close =
       let w = sent-within sent near cells moved close in
       let e = only cells (messageOf k (recordBits (got .stated))) (messageOf k (recordBits sent)) (got .mended) _ a w in
-      let p : got .stated ≡ sent = one-stated (got .stated) sent e in
+      let p : got .stated ≡ sent = one-stated k recordBits readBits record-size back (got .stated) sent e in
       let q : got .mended ≡ wrongSymbols decided n near cells =
       sym (a .places) ∙ ap (λ l. differing (λ (x : ℕ). x) (word l) (symbolsOf decided n cells)) e ∙ w .places in
       ap (λ x. Ok (record { stated = x; mended = got .mended })) p ∙ ap (λ i. Ok (record { stated = sent; mended = i })) q
@@ -109,7 +121,7 @@ module _ (k n : ℕ) (word : List ℕ → List ℕ) (distance reach : ℕ) (poin
       let w = sent-within sent near cells moved close in
       let e = only cells (a .0) (messageOf k (recordBits sent)) (a .1) _ (a .2) w in
       let bad = a .3 in
-      let good = message-read sent in
+      let good = message-read k recordBits readBits record-size back sent in
       let same : readBits (recordOf (a .0)) ≡ readBits (recordOf (messageOf k (recordBits sent))) = ap (λ l. readBits (recordOf l)) e in
       let z : _≡_ {A = ℕ} 0 1 = cc in
       absurd (omega arith)

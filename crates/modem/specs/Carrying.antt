@@ -1,11 +1,13 @@
 -- Any stream of seven-bit symbols: from its record to a message, and from a word to cells and back.
 use mathlib.Core.Bool.{Bool}
 use mathlib.Core.List.{List}
-use Prim.Native.Nat.{ℕ}
+use mathlib.Core.Path.{_≡_}
+use Prim.Native.Nat.{ℕ, _<_}
+use Rattle.codes.specs.Symbols.{differing}
 use Rattle.cells.specs.Mapping.{mapped, decidedBits}
 use Rattle.cells.specs.declared.cell.Cell.{Cell}
-use Rattle.streams.specs.Bits.{cut, spread}
-use Rattle.streams.specs.Scrambling.{scrambled}
+use Rattle.bits.specs.Bits.{cut, spread}
+use Rattle.bits.specs.Scrambling.{scrambled}
 
 -- the message of k symbols that a record gives: it is scrambled first, and then cut
 abbrev pub messageOf : ℕ → List Bool → List ℕ
@@ -22,3 +24,8 @@ cellsOf point width count word = mapped point width count (spread 7 word)
 -- the n symbols that cells are decided for
 abbrev pub symbolsOf : (Cell → List Bool) → ℕ → List Cell → List ℕ
 symbolsOf decided n cells = cut 7 n (decidedBits decided cells)
+
+-- Words of different records differ in at least `distance` places: what is sent, and any other.
+abbrev pub ToldApart : {R : Type 0} → (R → List Bool) → ℕ → (List ℕ → List ℕ) → (distance : ℕ) → R → Type 0
+ToldApart {R} recordBits k word distance sent =
+    (other : R) → differing (λ (x : ℕ). x) (word (messageOf k (recordBits sent))) (word (messageOf k (recordBits other))) < distance → other ≡ sent

@@ -5,8 +5,8 @@ use Prim.Native.Nat.{ℕ}
 use Rattle.std.specs.declared.result.Result.{Result}
 use Rattle.cells.specs.declared.cell.Cell.{Cell}
 use Rattle.streams.specs.Mis.{misRecord, misRead}
-use Rattle.streams.specs.Scrambling.{scrambled}
-use Rattle.streams.specs.declared.mode.Mis.{Mis}
+use Rattle.bits.specs.Scrambling.{scrambled}
+use Rattle.modes.specs.declared.mode.Mis.{Mis}
 use Rattle.modem.specs.Carrying.{messageOf, cellsOf}
 use Rattle.modem.specs.Reading.{StreamAnswer, ReadsBack}
 use Rattle.modem.specs.declared.carrying.Reading.{Reading}

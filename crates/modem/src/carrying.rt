@@ -5,6 +5,9 @@ ghost use lib.ListN.{length};
 ghost use Rattle.cells.specs.Cells.{cellBits};
 ghost use Rattle.modem.specs.Carrying.{cellsOf, symbolsOf};
 ghost use Rattle.modem.specs.Reading.{RecordMended};
+use bits::cut_symbols;
+use bits::scramble;
+use bits::spread_symbols;
 use cells::Cell;
 use cells::Constellation;
 use cells::Order;
@@ -13,9 +16,6 @@ use cells::map_bits;
 use codes::symbols::SevenBitSymbol;
 use codes::words::BeyondReach;
 use codes::words::MendingCode;
-use streams::cut_symbols;
-use streams::scramble;
-use streams::spread_symbols;
 
 // The longest word has 5120 symbols, of seven bits each.
 const MOST_SYMBOLS: usize = 5120;

@@ -1,6 +1,6 @@
 // Why a stream of the frame cannot be read.
 ghost use mathlib.Core.Path.{_≡_};
-ghost use Rattle.modem.specs.Faults.{misRefusal};
+ghost use Rattle.modem.specs.Faults.{misRefusal, tisRefusal};
 ghost use Rattle.modem.specs.declared.fault.StreamFault.the-variants.{Reach, Record};
 use codes::words::BeyondReach;
 use refusals::Refusal;
@@ -36,6 +36,16 @@ impl StreamFault {
         match self {
             StreamFault::Reach(_) => Refusal::MisBeyondReach,
             StreamFault::Record(_) => Refusal::BadMis,
+        }
+    }
+
+    // The refusal that a fault of the TIS is.
+    pub fn of_tis(self) -> Refusal
+        ensures { λ r. ⌜ r ≡ tisRefusal self ⌝ }
+    {
+        match self {
+            StreamFault::Reach(_) => Refusal::TisBeyondReach,
+            StreamFault::Record(_) => Refusal::BadTis,
         }
     }
 }

@@ -1,4 +1,4 @@
-// A stream's symbols on cells and back, and the MIS whole.
+// A stream's symbols on cells and back, and the MIS and the TIS whole.
 mod carrying;
 mod fault;
 mod mis;

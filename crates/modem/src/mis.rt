@@ -2,6 +2,8 @@
 ghost use mathlib.Core.Path.{_≡_};
 ghost use Prim.Native.Nat.{ℕ};
 ghost use Rattle.cells.specs.declared.cell.Order.the-variants.{Four};
+ghost use Rattle.streams.specs.Mis.{misRecord};
+ghost use Rattle.modem.specs.Carrying.{ToldApart};
 ghost use Rattle.modem.specs.MisStream.{misTrace, MisAnswer, MisReadsBack};
 use crate::carrying::Reading;
 use crate::carrying::carry;
@@ -9,6 +11,8 @@ use crate::carrying::mend_record;
 use crate::fault::ReachFault;
 use crate::fault::RecordFault;
 use crate::fault::StreamFault;
+use bits::cut_symbols;
+use bits::scramble;
 use cells::Cell;
 use cells::Constellation;
 use cells::Order;
@@ -16,11 +20,9 @@ use codes::lengths::MisCode;
 use codes::symbols::SevenBitSymbol;
 use codes::words::MendingCode;
 use codes::words::SendingCode;
-use streams::Mis;
-use streams::cut_symbols;
+use modes::Mis;
 use streams::mis_record;
 use streams::read_mis_record;
-use streams::scramble;
 
 // The MIS at every step of sending.
 #[derive(Clone, Copy)]
@@ -32,8 +34,10 @@ pub struct MisTrace {
     pub cells: [Cell; 14],
 }
 
+// Every step from the three numbers of a MIS to its cells. Words of different records are told apart by the code's distance.
 pub fn write_mis<C: MisCode, Q: Constellation>(code: &C, points: &Q, mis: Mis) -> MisTrace
-    ensures { λ r. ⌜ r ≡ misTrace (C·SendingCode .word (now (code .entry))) (Q·Constellation .point (now (points .entry)) Four) mis ⌝ }
+    ensures apart { λ _. ⌜ ToldApart misRecord 2 (C·SendingCode .word (now (code .entry))) (C·SendingCode .distance (now (code .entry))) mis ⌝ }
+    ensures steps { λ r. ⌜ r ≡ misTrace (C·SendingCode .word (now (code .entry))) (Q·Constellation .point (now (points .entry)) Four) mis ⌝ }
 {
     let record = mis_record(mis);
     let mut scrambled = record;

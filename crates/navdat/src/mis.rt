@@ -13,15 +13,15 @@ use modem::Reading;
 use modem::StreamFault;
 use modem::read_mis;
 use modem::write_mis;
+use modes::DataConstellation;
+use modes::Mis;
+use modes::Occupancy;
+use modes::TisConstellation;
 use reed_solomon::mis::MisReedSolomon;
 use reed_solomon::mis::MisReedSolomonLengths;
 use reed_solomon::mis::MisReedSolomonMending;
 use reed_solomon::mis::MisReedSolomonSending;
 use std::io;
-use streams::DataConstellation;
-use streams::Mis;
-use streams::Occupancy;
-use streams::TisConstellation;
 
 fn mode(words: &[&str]) -> Result<Mis, Trouble> {
     let [o, t, d] = words else {

@@ -14,7 +14,28 @@ use codes::words::SendingCode;
 const MESSAGE_LENGTH: usize = 9;
 
 // (X + α)(X + α^2)…(X + α^20), without its leading 1
-static GENERATOR: [u8; 20] = [37, 118, 58, 76, 24, 59, 127, 39, 90, 39, 101, 98, 48, 29, 50, 38, 41, 16, 56, 66];
+static GENERATOR: [u8; 20] = [
+    37,
+    118,
+    58,
+    76,
+    24,
+    59,
+    127,
+    39,
+    90,
+    39,
+    101,
+    98,
+    48,
+    29,
+    50,
+    38,
+    41,
+    16,
+    56,
+    66,
+];
 
 fn generator() -> &'static [u8; 20]
     ensures { λ r. ⌜ now r ≡ generatorOf 20 ⌝ }

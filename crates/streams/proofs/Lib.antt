@@ -1,4 +1,1 @@
-pub mod Bits
-pub mod Remainders
-pub mod Sequences
 pub mod MisLaws

@@ -1,5 +1,5 @@
 -- A reader of MIS records answers a mode exactly where the bits are that mode's record.
-use mathlib.Core.Bool.{Bool, true, false, not, cond, _||_}
+use mathlib.Core.Bool.{Bool, true, false, not, _||_}
 use mathlib.Core.List.{List, [], _∷_, _++_}
 use mathlib.Core.Path.{_≡_, refl, sym, ap, _∙_}
 use Prim.Native.Nat.{ℕ, _+_, _<_, _≤_}
@@ -13,20 +13,21 @@ use Rattle.std.specs.declared.result.Result.{Result}
 use Rattle.std.specs.declared.result.Result.the-variants.{Ok, Err}
 use Rattle.std.proofs.shelf.Lists.{append-nil, drop-all, drop-at, length-append, take-all, take-append-drop, take-at}
 use Rattle.std.proofs.shelf.Tests.{cases-bool, eq-eqb, eqb-false, eqb-true, not-false, or-parts}
-use mathlib.Core.Logic.{_⊎_, inl, inr}
-use Rattle.streams.specs.Bits.{bitsOf, numberOf}
-use Rattle.streams.specs.Crc.{crc8Of}
-use Rattle.streams.specs.Mis.{occupancyNumber, tisNumber, dataNumber, numbered, occupancyOf, tisOf, dataOf, misFields, misRecord, fieldAt, misBad, modeOf, misRead, ReadsMis}
-use Rattle.streams.specs.declared.mode.Occupancy.{Occupancy}
-use Rattle.streams.specs.declared.mode.Occupancy.the-variants.{Khz1, Khz3, Khz5, Khz10}
-use Rattle.streams.specs.declared.mode.TisConstellation.{TisConstellation}
-use Rattle.streams.specs.declared.mode.TisConstellation.the-variants.{Qam4 as TisQam4, Qam16 as TisQam16}
-use Rattle.streams.specs.declared.mode.DataConstellation.{DataConstellation}
-use Rattle.streams.specs.declared.mode.DataConstellation.the-variants.{Qam4 as DataQam4, Qam16 as DataQam16, Qam64 as DataQam64}
-use Rattle.streams.specs.declared.mode.Mis.{Mis}
+use mathlib.Core.Logic.{inl, inr}
+use Rattle.bits.specs.Bits.{bitsOf}
+use Rattle.bits.specs.Crc.{crc8Of}
+use Rattle.modes.specs.Modes.{occupancyNumber, tisNumber, dataNumber, numbered, occupancyOf, tisOf, dataOf}
+use Rattle.streams.specs.Mis.{misFields, misRecord, fieldAt, misBad, modeOf, misRead, ReadsMis}
+use Rattle.modes.specs.declared.mode.Occupancy.{Occupancy}
+use Rattle.modes.specs.declared.mode.Occupancy.the-variants.{Khz1, Khz3, Khz5, Khz10}
+use Rattle.modes.specs.declared.mode.TisConstellation.{TisConstellation}
+use Rattle.modes.specs.declared.mode.TisConstellation.the-variants.{Qam4 as TisQam4, Qam16 as TisQam16}
+use Rattle.modes.specs.declared.mode.DataConstellation.{DataConstellation}
+use Rattle.modes.specs.declared.mode.DataConstellation.the-variants.{Qam4 as DataQam4, Qam16 as DataQam16, Qam64 as DataQam64}
+use Rattle.modes.specs.declared.mode.Mis.{Mis}
 use Rattle.streams.specs.declared.records.BadRecord.{BadRecord}
-use Rattle.streams.proofs.Bits.{numberOf-bitsOf, numberOf-below, field-back, field-more, take-plus}
-use Rattle.streams.proofs.Remainders.{crc-below}
+use Rattle.bits.proofs.Bits.{numberOf-bitsOf, numberOf-below, field-back, field-more, take-plus}
+use Rattle.bits.proofs.Remainders.{crc-below}
 
 -- what has a number is found by it
 numbered-is : {X : Type 0} (number : X → ℕ) (xs : List X) (n : ℕ) (x : X) → numbered number xs n ≡ Some x → n ≡ number x
@@ -72,7 +73,7 @@ module _ (m : Mis) where
 
   check-field : fieldAt 6 8 (misRecord m) ≡ crc8Of (misFields m)
   unfolding misRecord misFields bitsOf
-  check-field = numberOf-bitsOf 8 (crc8Of (misFields m)) (crc-below 8 29 (misFields m))
+  check-field = numberOf-bitsOf 8 (crc8Of (misFields m)) (crc-below 8 29 (misFields m) (crc8Of (misFields m)) refl)
 
   front-field : take 6 (misRecord m) ≡ misFields m
   unfolding misRecord misFields bitsOf

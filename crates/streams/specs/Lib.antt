@@ -1,4 +1,1 @@
-pub mod Bits
-pub mod Crc
-pub mod Scrambling
 pub mod Mis

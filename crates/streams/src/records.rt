@@ -1,11 +1,11 @@
 // The MIS record: 14 bits, of which the last eight check the first six.
-use crate::crc::crc8;
-use crate::fields::read_number;
-use crate::fields::write_number;
-use crate::mode::DataConstellation;
-use crate::mode::Mis;
-use crate::mode::Occupancy;
-use crate::mode::TisConstellation;
+use bits::crc8;
+use bits::read_number;
+use bits::write_number;
+use modes::DataConstellation;
+use modes::Mis;
+use modes::Occupancy;
+use modes::TisConstellation;
 ghost use Rattle.streams.specs.Mis.{misBad, misFields, misRead, misRecord, modeOf, ReadsMis};
 ghost use lib.ListN.{length};
 ghost use mathlib.Core.Path.{_≡_};

@@ -3,10 +3,10 @@ use Rattle.cells.specs.Mapping.{mapped}
 use Rattle.reed_solomon.specs.Field.{alpha, raised, timesLow, times}
 use Rattle.reed_solomon.specs.Generators.{generatorOf}
 use Rattle.reed_solomon.specs.Words.{added, divideStep, divided, wordOf}
-use Rattle.streams.specs.Bits.{bitsOf, numberOf, cut, spread}
-use Rattle.streams.specs.Crc.{registered, crcOf}
+use Rattle.bits.specs.Bits.{bitsOf, numberOf, cut, spread}
+use Rattle.bits.specs.Crc.{registered, crcOf}
 use Rattle.streams.specs.Mis.{misFields, misRecord}
-use Rattle.streams.specs.Scrambling.{earlier, scrambled}
+use Rattle.bits.specs.Scrambling.{earlier, scrambled}
 use Rattle.figures.specs.Printed.{Printed}
 use Rattle.figures.proofs.printed_mis.Needs as need
 
@@ -29,4 +29,4 @@ figures =
     }
 
 pub returns : need.returns
-returns c = record { steps = c .write-mis .ensures; printed = figures }
+returns c = record { steps = c .write-mis .ensures .steps; printed = figures }

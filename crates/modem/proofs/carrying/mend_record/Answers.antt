@@ -2,7 +2,7 @@ use mathlib.Core.Path.{_≡_, refl, _∙_}
 use borrow.Author.Needs.{needs}
 use lib.ListN.{length}
 use Rattle.std.proofs.shelf.Results.{err-from-errBy}
-use Rattle.streams.proofs.Bits.{cut-below-128}
+use Rattle.bits.proofs.Bits.{cut-below-128}
 use Rattle.modem.proofs.ReadBack.{given-symbols, within-given}
 use Rattle.modem.proofs.carrying.mend_record.Needs as need
 

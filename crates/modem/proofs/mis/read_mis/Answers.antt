@@ -9,7 +9,7 @@ use Rattle.std.proofs.shelf.Results.{err-from-errBy}
 use Rattle.cells.specs.declared.cell.Cell.{Cell}
 use Rattle.cells.specs.declared.cell.Order.the-variants.{Four}
 use Rattle.streams.specs.Mis.{misRecord, misRead}
-use Rattle.streams.specs.declared.mode.Mis.{Mis}
+use Rattle.modes.specs.declared.mode.Mis.{Mis}
 use Rattle.codes.specs.declared.words.BeyondReach.{BeyondReach}
 use Rattle.modem.specs.Reading.{RecordMended}
 use Rattle.modem.specs.MisStream.{MisAnswer, MisReadsBack}

@@ -9,7 +9,7 @@ use Rattle.reed_solomon.proofs.Reach.{take-set-below}
 use Rattle.reed_solomon.proofs.mend.write_changed.Needs as need
 
 pub of-requires : need.of-requires
-of-requires c κs = symbols-at (c .args .given .now) (length (c .args .given .now) - 1 - c .args .place) (c .pre .below)
+of-requires c κs = symbols-at (c .args .given .now) _ (c .pre .below)
 
 pub returns-then-at-k : need.returns-then-at-k
 returns-then-at-k c =

@@ -1,12 +1,12 @@
-use native.Mathlib.Omega.{arith}
+use lib.Dec.{lit≤}
 use Rattle.streams.proofs.MisLaws.{record-made, room-before}
 use Rattle.streams.proofs.records.mis_record.Needs as need
 
 pub part-crc8-end : need.part-crc8-end
-part-crc8-end c = room-before (c .write-fields .last .fields) (c .args .mis) 6 (c .write-fields .ensures) (omega arith)
+part-crc8-end c = room-before (c .write-fields .last .fields) (c .args .mis) _ (c .write-fields .ensures) (lit≤ tt)
 
 pub part-record-end-2 : need.part-record-end-2
-part-record-end-2 c = room-before (c .write-fields .last .fields) (c .args .mis) 14 (c .write-fields .ensures) (omega arith)
+part-record-end-2 c = room-before (c .write-fields .last .fields) (c .args .mis) _ (c .write-fields .ensures) (lit≤ tt)
 
 pub returns : need.returns
 returns c =

@@ -1,6 +1,6 @@
 use mathlib.Core.Path.{ap, _∙_}
 use Rattle.std.specs.declared.result.Result.the-variants.{Err}
-use Rattle.streams.specs.Mis.{occupancyOf, tisOf, dataOf}
+use Rattle.modes.specs.Modes.{occupancyOf, tisOf, dataOf}
 use Rattle.streams.proofs.MisLaws.{read-bad, read-parts, reads}
 use Rattle.streams.proofs.records.read_mis_record.Needs as need
 

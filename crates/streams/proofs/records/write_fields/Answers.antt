@@ -1,10 +1,11 @@
 use mathlib.Core.List.{[], _++_}
-use mathlib.Core.Path.{_≡_, refl, _∙_}
+use mathlib.Core.Path.{refl, _∙_}
 use native.Mathlib.Omega.{arith}
 use Rattle.std.proofs.shelf.Lists.{append-nil, drop-all}
-use Rattle.streams.specs.Bits.{bitsOf}
-use Rattle.streams.specs.Mis.{occupancyNumber, tisNumber, dataNumber, misFields}
-use Rattle.streams.proofs.Bits.{field-more}
+use Rattle.bits.specs.Bits.{bitsOf}
+use Rattle.modes.specs.Modes.{occupancyNumber, tisNumber, dataNumber}
+use Rattle.streams.specs.Mis.{misFields}
+use Rattle.bits.proofs.Bits.{field-more}
 use Rattle.streams.proofs.records.write_fields.Needs as need
 
 pub returns : need.returns
