@@ -34,6 +34,10 @@ zeroMis = record { occupancy = Khz1; tis = TisQam4; «data» = DataQam4 }
 abbrev pub misWord : List ℕ → List ℕ
 misWord = wordOf (generatorOf 2)
 
+-- RS(29,9)
+abbrev pub tisWord : List ℕ → List ℕ
+tisWord = wordOf (generatorOf 20)
+
 pub record Printed : Type 0 where
   -- 64 times 2 in the field is 9
   pub product : times 64 2 ≡ 9

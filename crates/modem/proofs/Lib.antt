@@ -1,3 +1,4 @@
 pub mod Carries
 pub mod MisRecords
 pub mod ReadBack
+pub mod TisRecords

@@ -2,6 +2,7 @@
 mod carrying;
 mod fault;
 mod mis;
+mod tis;
 
 pub use carrying::Reading;
 pub use carrying::carry;
@@ -12,3 +13,6 @@ pub use fault::StreamFault;
 pub use mis::MisTrace;
 pub use mis::read_mis;
 pub use mis::write_mis;
+pub use tis::TisTrace;
+pub use tis::read_tis;
+pub use tis::write_tis;

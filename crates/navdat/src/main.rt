@@ -2,7 +2,9 @@
 mod mis;
 mod numbers;
 mod script;
+mod settings;
 mod text;
+mod tis;
 
 use script::run_line;
 use std::io;

@@ -1,14 +1,10 @@
 // `mis O T D [I=V …]`: the MIS of three mode numbers, step by step, and what reading its cells gives.
 use crate::numbers::natural;
-use crate::numbers::signed;
 use crate::script::Trouble;
-use crate::text::bits_text;
-use crate::text::cell_numbers;
-use crate::text::numbers_text;
-use cells::Cell;
+use crate::settings::set_numbers;
+use crate::text::print_steps;
 use cells::Qam;
 use cells::QamConstellation;
-use modem::MisTrace;
 use modem::Reading;
 use modem::StreamFault;
 use modem::read_mis;
@@ -35,46 +31,6 @@ fn mode(words: &[&str]) -> Result<Mis, Trouble> {
         tis: TisConstellation::from_number(tis).ok_or(Trouble::OutOfRange)?,
         data: DataConstellation::from_number(data).ok_or(Trouble::OutOfRange)?,
     })
-}
-
-// Sets one number of the cells, by a word `I=V`.
-fn set_number(word: &str, cells: &mut [Cell]) -> Result<(), Trouble> {
-    let Some((place, value)) = word.split_once('=') else {
-        return Err(Trouble::NoNumber);
-    };
-    let place = natural(place, 1_000_000)? as usize;
-    let value = signed(value)?;
-    if place / 2 >= cells.len() {
-        return Err(Trouble::NotThere);
-    }
-    if place % 2 == 0 {
-        cells[place / 2].real = value;
-    } else {
-        cells[place / 2].imaginary = value;
-    }
-    Ok(())
-}
-
-fn set_numbers(words: &[&str], cells: &mut [Cell]) -> Result<(), Trouble> {
-    for word in words {
-        set_number(word, cells)?;
-    }
-    Ok(())
-}
-
-fn print_trace(rt: &LibcRuntime, trace: &MisTrace) -> io::Result<()> {
-    let heap = rt.alloc();
-    let record = bits_text(heap, &trace.record)?;
-    println!(rt, "mis: record {record}")?;
-    let scrambled = bits_text(heap, &trace.scrambled)?;
-    println!(rt, "mis: scrambled {scrambled}")?;
-    let message = numbers_text(heap, &trace.message)?;
-    println!(rt, "mis: message{message}")?;
-    let word = numbers_text(heap, &trace.word)?;
-    println!(rt, "mis: word{word}")?;
-    let numbers = cell_numbers(heap, &trace.cells)?;
-    let cells = numbers_text(heap, numbers.as_slice())?;
-    println!(rt, "mis: cells{cells}")
 }
 
 fn print_answer(rt: &LibcRuntime, answer: Result<Reading<Mis>, StreamFault>) -> io::Result<()> {
@@ -108,7 +64,15 @@ pub fn run_mis(rt: &LibcRuntime, words: &[&str]) -> io::Result<Result<(), Troubl
     if let Err(why) = set_numbers(settings, &mut cells) {
         return Ok(Err(why));
     }
-    print_trace(rt, &trace)?;
+    print_steps(
+        rt,
+        "mis",
+        &trace.record,
+        &trace.scrambled,
+        &trace.message,
+        &trace.word,
+        &trace.cells,
+    )?;
     print_answer(rt, read_mis(&MisReedSolomon, &Qam, &cells))?;
     Ok(Ok(()))
 }

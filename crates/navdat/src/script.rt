@@ -1,5 +1,6 @@
 // A line of the script: its words, its command, and what is wrong with it.
 use crate::mis::run_mis;
+use crate::tis::run_tis;
 use std::alloc::AllocError;
 use std::alloc::Global;
 use std::fmt;
@@ -51,6 +52,7 @@ fn run_words(rt: &LibcRuntime, words: &[&str]) -> io::Result<()> {
     let done = match words {
         [] => Ok(()),
         ["mis", rest @ ..] => run_mis(rt, rest)?,
+        ["tis", rest @ ..] => run_tis(rt, rest)?,
         _ => Err(Trouble::NoCommand),
     };
     match done {

@@ -3,6 +3,7 @@ use cells::Cell;
 use std::alloc::AllocError;
 use std::alloc::Global;
 use std::fmt::Display;
+use std::io;
 
 // Bits as one word, in sending order.
 pub fn bits_text(heap: Global, bits: &[bool]) -> Result<String, AllocError> {
@@ -31,4 +32,28 @@ pub fn cell_numbers(heap: Global, cells: &[Cell]) -> Result<Vec<i16>, AllocError
         numbers.push(cell.imaginary)?;
     }
     Ok(numbers)
+}
+
+// Prints every step of sending a stream.
+pub fn print_steps(
+    rt: &LibcRuntime,
+    name: &str,
+    record: &[bool],
+    scrambled: &[bool],
+    message: &[u8],
+    word: &[u8],
+    cells: &[Cell],
+) -> io::Result<()> {
+    let heap = rt.alloc();
+    let record = bits_text(heap, record)?;
+    println!(rt, "{name}: record {record}")?;
+    let scrambled = bits_text(heap, scrambled)?;
+    println!(rt, "{name}: scrambled {scrambled}")?;
+    let message = numbers_text(heap, message)?;
+    println!(rt, "{name}: message{message}")?;
+    let word = numbers_text(heap, word)?;
+    println!(rt, "{name}: word{word}")?;
+    let numbers = cell_numbers(heap, cells)?;
+    let cells = numbers_text(heap, numbers.as_slice())?;
+    println!(rt, "{name}: cells{cells}")
 }

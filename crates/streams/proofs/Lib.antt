@@ -1,1 +1,3 @@
+pub mod RecordLaws
 pub mod MisLaws
+pub mod TisLaws

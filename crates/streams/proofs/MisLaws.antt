@@ -27,6 +27,7 @@ use Rattle.modes.specs.declared.mode.DataConstellation.the-variants.{Qam4 as Da
 use Rattle.modes.specs.declared.mode.Mis.{Mis}
 use Rattle.streams.specs.declared.records.BadRecord.{BadRecord}
 use Rattle.bits.proofs.Bits.{numberOf-bitsOf, numberOf-below, field-back, field-more, take-plus}
+use Rattle.streams.proofs.RecordLaws.{check-right, field-below, part-length}
 use Rattle.bits.proofs.Remainders.{crc-below}
 
 -- what has a number is found by it
@@ -38,7 +39,7 @@ numbered-is number (y ∷ ys) n x e =
       | inr t ↦ numbered-is number ys n x (rw t at e)
     ]
 
-occupancy-found : (o : Occupancy) → (occupancyNumber o < 4) × (occupancyOf (occupancyNumber o) ≡ Some o)
+pub occupancy-found : (o : Occupancy) → (occupancyNumber o < 4) × (occupancyOf (occupancyNumber o) ≡ Some o)
 occupancy-found Khz1 = (lit< tt, refl)
 occupancy-found Khz3 = (lit< tt, refl)
 occupancy-found Khz5 = (lit< tt, refl)
@@ -48,7 +49,7 @@ tis-found : (t : TisConstellation) → (tisNumber t < 2) × (tisOf (tisNumber t)
 tis-found TisQam4 = (lit< tt, refl)
 tis-found TisQam16 = (lit< tt, refl)
 
-data-found : (d : DataConstellation) → (dataNumber d < 4) × (eqb (dataNumber d) 3 ≡ false) × (dataOf (dataNumber d) ≡ Some d)
+pub data-found : (d : DataConstellation) → (dataNumber d < 4) × (eqb (dataNumber d) 3 ≡ false) × (dataOf (dataNumber d) ≡ Some d)
 data-found DataQam4 = (lit< tt, refl, refl)
 data-found DataQam16 = (lit< tt, refl, refl)
 data-found DataQam64 = (lit< tt, refl, refl)
@@ -108,9 +109,6 @@ modeOf-parts (Some o) (Some t) (Some d) m e =
 
 -- a record that is read as a mode is the mode's record
 module _ (bits : List Bool) (size : length bits ≡ 14) (m : Mis) where
-  part : (a w : ℕ) → a + w ≤ 14 → length (take w (drop a bits)) ≡ w
-  part a w h = simp (length-take, length-drop) (omega arith)
-
   read-good : misRead bits ≡ Ok m → misBad bits ≡ false
   unfolding misRead
   read-good e =
@@ -131,14 +129,14 @@ module _ (bits : List Bool) (size : length bits ≡ 14) (m : Mis) where
       let o = numbered-is occupancyNumber (Khz1 ∷ Khz3 ∷ Khz5 ∷ Khz10 ∷ []) (fieldAt 0 2 bits) (m .occupancy) (parts .0) in
       let t = numbered-is tisNumber (TisQam4 ∷ TisQam16 ∷ []) (fieldAt 2 1 bits) (m .tis) (parts .1) in
       let d = numbered-is dataNumber (DataQam4 ∷ DataQam16 ∷ DataQam64 ∷ []) (fieldAt 3 2 bits) (m .«data») (parts .2) in
-      let below : fieldAt 5 1 bits < 2 = rw (part 5 1 (omega arith)) at (numberOf-below (take 1 (drop 5 bits))) in
+      let below = field-below bits 5 1 in
       let other = eqb-false (fieldAt 5 1 bits) 1 (or-parts (eqb (fieldAt 5 1 bits) 1) (eqb (fieldAt 3 2 bits) 3) (good .1) .0) in
       let fill : fieldAt 5 1 bits ≡ 0 = omega arith in
       rw (
-        field-back 2 (occupancyNumber (m .occupancy)) (take 2 bits) (part 0 2 (omega arith)) o,
-        field-back 1 (tisNumber (m .tis)) (take 1 (drop 2 bits)) (part 2 1 (omega arith)) t,
-        field-back 2 (dataNumber (m .«data»)) (take 2 (drop 3 bits)) (part 3 2 (omega arith)) d,
-        field-back 1 0 (take 1 (drop 5 bits)) (part 5 1 (omega arith)) fill,
+        field-back 2 (occupancyNumber (m .occupancy)) (take 2 bits) (part-length bits 0 2 (omega arith)) o,
+        field-back 1 (tisNumber (m .tis)) (take 1 (drop 2 bits)) (part-length bits 2 1 (omega arith)) t,
+        field-back 2 (dataNumber (m .«data»)) (take 2 (drop 3 bits)) (part-length bits 3 2 (omega arith)) d,
+        field-back 1 0 (take 1 (drop 5 bits)) (part-length bits 5 1 (omega arith)) fill,
         take-plus 5 1 bits,
         take-plus 3 2 bits,
         take-plus 2 1 bits,
@@ -149,8 +147,7 @@ module _ (bits : List Bool) (size : length bits ≡ 14) (m : Mis) where
   read-record e =
       let good = or-parts (not (eqb (fieldAt 6 8 bits) (crc8Of (take 6 bits)))) (eqb (fieldAt 5 1 bits) 1 || eqb (fieldAt 3 2 bits) 3) (read-good e) in
       let check = eqb-true (fieldAt 6 8 bits) (crc8Of (take 6 bits)) (not-false (eqb (fieldAt 6 8 bits) (crc8Of (take 6 bits))) (good .0)) in
-      let rest : take 8 (drop 6 bits) ≡ drop 6 bits = take-all 8 (drop 6 bits) (simp length-drop (omega arith)) in
-      rw (read-fields e, field-back 8 (crc8Of (take 6 bits)) (take 8 (drop 6 bits)) (part 6 8 (omega arith)) check, rest) (sym (take-append-drop 6 bits))
+      check-right bits (misFields m) 6 size (read-fields e) check
 
 pub misRead-exactly : (bits : List Bool) → length bits ≡ 14 → ReadsMis bits (misRead bits)
 misRead-exactly bits size m = (read-record bits size m, λ e. ap misRead e ∙ record-read m)
@@ -171,19 +168,3 @@ reads bits r size e = rw e (misRead-exactly bits size)
 pub length-misFields : (m : Mis) → length (misFields m) ≡ 6
 unfolding misFields bitsOf
 length-misFields m = refl
-
--- six bits are written before eight
-pub room-before : (front : List Bool) (m : Mis) (n : ℕ) → front ≡ misFields m → n ≤ 14 → n ≤ length (front ++ replicate 8 false)
-room-before front m n e h = omega (arith, length-append front (replicate 8 false), ap length e, length-misFields m)
-
--- the check is written behind the six bits
-pub record-made : (m : Mis) (front part : List Bool) (check n : ℕ) → front ≡ misFields m → check ≡ crc8Of (take 6 (front ++ replicate 8 false)) →
-    part ≡ bitsOf (length (take 8 (drop 6 (front ++ replicate 8 false)))) n → n ≡ check → putMid 6 8 (front ++ replicate 8 false) part ≡ misRecord m
-unfolding misRecord
-record-made m front part check n e crc p same =
-    let six : length front ≡ 6 = ap length e ∙ length-misFields m in
-    let value : check ≡ crc8Of (misFields m) = crc ∙ ap crc8Of (take-at front (replicate 8 false) 6 six ∙ e) in
-    let made = field-more front (front ++ replicate 8 false) (front ++ replicate 8 false) part 6 8 (crc8Of (misFields m)) n six
-    (omega (arith, length-append front (replicate 8 false))) (ap (λ l. front ++ l) (sym (drop-at front (replicate 8 false) 6 six))) p (same ∙ value) in
-    let none = drop-all 14 (front ++ replicate 8 false) (omega (arith, length-append front (replicate 8 false))) in
-    made ∙ (ap (λ l. front ++ bitsOf 8 (crc8Of (misFields m)) ++ l) none ∙ (append-nil (front ++ bitsOf 8 (crc8Of (misFields m))) ∙ ap (λ l. l ++ bitsOf 8 (crc8Of (misFields m))) e))

@@ -1,1 +1,2 @@
 pub mod Mis
+pub mod Tis
