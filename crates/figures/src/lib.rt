@@ -28,10 +28,6 @@ use reed_solomon::tis::TisReedSolomonSending;
 
 #[cfg(test)]
 mod checks;
-#[cfg(test)]
-mod mis_rows;
-#[cfg(test)]
-mod tis_rows;
 
 // The MIS that is printed step by step. That the printed figures hold of the definitions is shown with it, all by one proof.
 pub fn printed_mis() -> MisTrace
