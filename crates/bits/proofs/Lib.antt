@@ -1,3 +1,4 @@
 pub mod Bits
+pub mod ByteLaws
 pub mod Remainders
 pub mod Sequences

@@ -1,3 +1,4 @@
 pub mod Bits
 pub mod Crc
+pub mod Crc16
 pub mod Scrambling

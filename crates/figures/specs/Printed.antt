@@ -10,8 +10,13 @@ use Rattle.cells.specs.declared.cell.Cell.{Cell}
 use Rattle.cells.specs.declared.cell.Order.the-variants.{Four}
 use Rattle.reed_solomon.specs.Field.{times}
 use Rattle.reed_solomon.specs.Generators.{generatorOf}
-use Rattle.reed_solomon.specs.Words.{wordOf}
+use Rattle.reed_solomon.specs.Words.{wordOf as rootedWord}
+use Rattle.bits.specs.Bits.{cut}
 use Rattle.bits.specs.Crc.{crc8Of}
+use Rattle.messages.specs.Packets.{packetOf}
+use Rattle.messages.specs.Pieces.{pieceCount}
+use Rattle.packets.specs.Packets.{headerBits, packetLength}
+use Rattle.staircase.specs.Staircase.{wordOf}
 use Rattle.bits.specs.Scrambling.{scrambled}
 use Rattle.modes.specs.declared.mode.DataConstellation.the-variants.{Qam4 as DataQam4}
 use Rattle.modes.specs.declared.mode.Mis.{Mis}
@@ -32,11 +37,11 @@ zeroMis = record { occupancy = Khz1; tis = TisQam4; «data» = DataQam4 }
 
 -- RS(4,2)
 abbrev pub misWord : List ℕ → List ℕ
-misWord = wordOf (generatorOf 2)
+misWord = rootedWord (generatorOf 2)
 
 -- RS(29,9)
 abbrev pub tisWord : List ℕ → List ℕ
-tisWord = wordOf (generatorOf 20)
+tisWord = rootedWord (generatorOf 20)
 
 pub record Printed : Type 0 where
   -- 64 times 2 in the field is 9
@@ -57,3 +62,12 @@ pub record Printed : Type 0 where
   pub axis-1535 : decidedNumber 3 (pos 1535) ≡ 1
   pub axis-0 : decidedNumber 3 (pos 0) ≡ 3
   pub axis-lowest : decidedNumber 3 (negsuc 32767) ≡ 7
+  -- with L 4 and the exponents 1, -1 and 0, 2, the message 1000 0100 has the checks 0001 1000
+  pub checks : wordOf 4 2 2 (pos 1 ∷ negsuc 0 ∷ pos 0 ∷ pos 2 ∷ []) (true ∷ false ∷ false ∷ false ∷ false ∷ true ∷ false ∷ false ∷ [])
+      ≡ true ∷ false ∷ false ∷ false ∷ false ∷ true ∷ false ∷ false ∷ false ∷ false ∷ false ∷ true ∷ true ∷ false ∷ false ∷ false ∷ []
+  -- length 7, toggle 1, last 1, id 1 is the header 00 7A 00 80 (hexadecimal)
+  pub header : cut 8 4 (headerBits (record { toggle = true; last = true; id = 1; bytes = 0 ∷ [] })) ≡ 0x00 ∷ 0x7A ∷ 0x00 ∷ 0x80 ∷ []
+  -- at a block of 320 bytes 314 bytes make one piece; 315 make two, the second of length 7
+  pub one-piece : pieceCount 314 314 ≡ 1
+  pub two-pieces : pieceCount 314 315 ≡ 2
+  pub second-piece : packetLength (packetOf 314 (replicate 315 0) false 1) ≡ 7

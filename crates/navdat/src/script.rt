@@ -1,5 +1,11 @@
 // A line of the script: its words, its command, and what is wrong with it.
+use crate::drafts::Desk;
+use crate::drafts::run_exponents;
+use crate::drafts::run_fill;
+use crate::drafts::run_plan;
 use crate::mis::run_mis;
+use crate::packet::run_block;
+use crate::packet::run_packet;
 use crate::tis::run_tis;
 use std::alloc::AllocError;
 use std::alloc::Global;
@@ -16,6 +22,8 @@ pub enum Trouble {
     TooFew,
     TooMany,
     NotThere,
+    NoRoom,
+    NoMemory,
 }
 
 pub impl fmt::Display for Trouble as TroubleDisplay {
@@ -27,6 +35,8 @@ pub impl fmt::Display for Trouble as TroubleDisplay {
             Trouble::OutOfRange => write!(f, "a number is out of range"),
             Trouble::TooFew => write!(f, "there are too few words"),
             Trouble::TooMany => write!(f, "there are too many words"),
+            Trouble::NoRoom => write!(f, "the packet does not fit its block"),
+            Trouble::NoMemory => write!(f, "there is no memory"),
             Trouble::NotThere => write!(f, "there is no number of that place"),
         }
     }
@@ -48,11 +58,16 @@ fn print_trouble(rt: &LibcRuntime, why: Trouble) -> io::Result<()> {
 }
 
 // Runs the words of a line.
-fn run_words(rt: &LibcRuntime, words: &[&str]) -> io::Result<()> {
+fn run_words(rt: &LibcRuntime, desk: &mut Desk, words: &[&str]) -> io::Result<()> {
     let done = match words {
         [] => Ok(()),
+        ["plan", rest @ ..] => run_plan(rt, desk, rest)?,
+        ["exponents", rest @ ..] => run_exponents(rt, desk, rest)?,
+        ["fill", rest @ ..] => run_fill(rt, desk, rest)?,
         ["mis", rest @ ..] => run_mis(rt, rest)?,
         ["tis", rest @ ..] => run_tis(rt, rest)?,
+        ["packet", rest @ ..] => run_packet(rt, rest)?,
+        ["block", rest @ ..] => run_block(rt, rest)?,
         _ => Err(Trouble::NoCommand),
     };
     match done {
@@ -62,7 +77,7 @@ fn run_words(rt: &LibcRuntime, words: &[&str]) -> io::Result<()> {
 }
 
 // Runs one line, and prints what it does.
-pub fn run_line(rt: &LibcRuntime, line: &[u8]) -> io::Result<()> {
+pub fn run_line(rt: &LibcRuntime, desk: &mut Desk, line: &[u8]) -> io::Result<()> {
     let Ok(text) = std::str::from_utf8(line) else {
         return print_trouble(rt, Trouble::NoText);
     };
@@ -71,5 +86,5 @@ pub fn run_line(rt: &LibcRuntime, line: &[u8]) -> io::Result<()> {
     }
     let text = text.strip_suffix('\n').unwrap_or(text);
     let all = words(rt.alloc(), text.strip_suffix('\r').unwrap_or(text))?;
-    run_words(rt, all.as_slice())
+    run_words(rt, desk, all.as_slice())
 }

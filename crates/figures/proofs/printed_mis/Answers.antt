@@ -7,12 +7,14 @@ use Rattle.bits.specs.Bits.{bitsOf, numberOf, cut, spread}
 use Rattle.bits.specs.Crc.{registered, crcOf}
 use Rattle.streams.specs.Mis.{misFields, misRecord}
 use Rattle.bits.specs.Scrambling.{earlier, scrambled}
+use Rattle.packets.specs.Packets.{headerBits}
+use Rattle.staircase.specs.Staircase.{checkAt, rowSum}
 use Rattle.figures.specs.Printed.{Printed}
 use Rattle.figures.proofs.printed_mis.Needs as need
 
 -- each figure by computation
 figures : Printed
-unfolding mapped alpha raised timesLow times generatorOf added divideStep divided wordOf bitsOf numberOf cut spread registered crcOf misFields misRecord earlier scrambled
+unfolding checkAt rowSum headerBits mapped alpha raised timesLow times generatorOf added divideStep divided wordOf bitsOf numberOf cut spread registered crcOf misFields misRecord earlier scrambled
 figures =
     record {
       product = refl;
@@ -26,6 +28,11 @@ figures =
       axis-1535 = refl;
       axis-0 = refl;
       axis-lowest = refl;
+      checks = refl;
+      header = refl;
+      one-piece = refl;
+      two-pieces = refl;
+      second-piece = refl;
     }
 
 pub returns : need.returns

@@ -1,3 +1,4 @@
+use lib.Dec.{lit≤}
 use native.Mathlib.Omega.{arith}
 use Rattle.streams.specs.Tis.{tisFields, tisRecord}
 use Rattle.streams.proofs.RecordLaws.{check-written, room-before}
@@ -5,10 +6,10 @@ use Rattle.streams.proofs.TisLaws.{length-tisFields}
 use Rattle.streams.proofs.tis.tis_record.Needs as need
 
 pub part-crc8-end : need.part-crc8-end
-part-crc8-end c = room-before (tisFields (c .args .tis)) (c .write-fields .last .fields) 55 (length-tisFields (c .args .tis)) (c .write-fields .ensures) 55 (omega arith)
+part-crc8-end c = room-before (tisFields (c .args .tis)) (c .write-fields .last .fields) 55 (length-tisFields (c .args .tis)) (c .write-fields .ensures) _ (lit≤ tt)
 
 pub part-record-end-2 : need.part-record-end-2
-part-record-end-2 c = room-before (tisFields (c .args .tis)) (c .write-fields .last .fields) 55 (length-tisFields (c .args .tis)) (c .write-fields .ensures) 63 (omega arith)
+part-record-end-2 c = room-before (tisFields (c .args .tis)) (c .write-fields .last .fields) 55 (length-tisFields (c .args .tis)) (c .write-fields .ensures) _ (lit≤ tt)
 
 pub returns : need.returns
 unfolding tisRecord

@@ -1,0 +1,7 @@
+pub mod Pieces
+pub mod Packets
+pub mod SenderCalls
+pub mod CollectorCalls
+pub mod Histories
+pub mod Promise
+pub mod Views
