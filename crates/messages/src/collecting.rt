@@ -3,7 +3,7 @@ use crate::states::Phase;
 ghost use mathlib.Core.Path.{_≡_};
 ghost use Prim.Native.Nat.{_≤_};
 ghost use lib.ListN.{length};
-ghost use Rattle.std.specs.Of.Vec.{vec-items};
+ghost use Rattle.std.specs.Of.Vec.{vec-len};
 ghost use Rattle.messages.specs.CollectorCalls.{known};
 
 mod calls;
@@ -28,5 +28,5 @@ pub struct Collector {
     ghost ids: { length there ≡ 1024 },
     ghost ends: { known last ≤ 1024 },
     ghost fits: { total ≤ 16384 },
-    ghost room: { length (vec-items bytes) ≡ 16384 },
+    ghost room: { vec-len bytes ≡ 16384 },
 }

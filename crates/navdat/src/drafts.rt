@@ -1,7 +1,7 @@
 // `plan RUN…`, `exponents RUN…` and `fill O T D R L M K`: drafts, and the line-up that is filled from them.
-use crate::numbers::natural;
-use crate::numbers::signed;
-use crate::script::Trouble;
+use desk::numbers::natural;
+use desk::numbers::signed;
+use desk::trouble::Trouble;
 use lineup::line_up::LineUp;
 use refusals::Refusal;
 use std::alloc::AllocError;

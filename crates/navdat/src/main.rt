@@ -1,12 +1,7 @@
 // The desk program: a script of commands in, what the library's calls answer out.
 mod drafts;
-mod hex;
 mod mis;
-mod numbers;
-mod packet;
 mod script;
-mod settings;
-mod text;
 mod tis;
 
 use drafts::Desk;

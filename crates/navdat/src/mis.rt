@@ -1,10 +1,10 @@
 // `mis O T D [I=V …]`: the MIS of three mode numbers, step by step, and what reading its cells gives.
-use crate::numbers::natural;
-use crate::script::Trouble;
-use crate::settings::set_numbers;
-use crate::text::print_steps;
 use cells::Qam;
 use cells::QamConstellation;
+use desk::numbers::natural;
+use desk::settings::set_numbers;
+use desk::text::print_steps;
+use desk::trouble::Trouble;
 use modem::Reading;
 use modem::StreamFault;
 use modem::read_mis;

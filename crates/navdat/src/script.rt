@@ -4,43 +4,14 @@ use crate::drafts::run_exponents;
 use crate::drafts::run_fill;
 use crate::drafts::run_plan;
 use crate::mis::run_mis;
-use crate::packet::run_block;
-use crate::packet::run_packet;
 use crate::tis::run_tis;
+use desk::packet::run_block;
+use desk::packet::run_packet;
+use desk::trouble::Trouble;
+use desk::trouble::TroubleDisplay;
 use std::alloc::AllocError;
 use std::alloc::Global;
-use std::fmt;
 use std::io;
-
-// Why a line is no command.
-#[derive(Clone, Copy, Debug)]
-pub enum Trouble {
-    NoText,
-    NoCommand,
-    NoNumber,
-    OutOfRange,
-    TooFew,
-    TooMany,
-    NotThere,
-    NoRoom,
-    NoMemory,
-}
-
-pub impl fmt::Display for Trouble as TroubleDisplay {
-    fn fmt<W: fmt::Write>(&self, f: &mut fmt::Formatter<W>) -> fmt::Result {
-        match self {
-            Trouble::NoText => write!(f, "the line is not text"),
-            Trouble::NoCommand => write!(f, "there is no such command"),
-            Trouble::NoNumber => write!(f, "a word is not a number of the kind asked for"),
-            Trouble::OutOfRange => write!(f, "a number is out of range"),
-            Trouble::TooFew => write!(f, "there are too few words"),
-            Trouble::TooMany => write!(f, "there are too many words"),
-            Trouble::NoRoom => write!(f, "the packet does not fit its block"),
-            Trouble::NoMemory => write!(f, "there is no memory"),
-            Trouble::NotThere => write!(f, "there is no number of that place"),
-        }
-    }
-}
 
 // The words of a line, which one or more spaces part.
 fn words(heap: Global, line: &str) -> Result<Vec<&str>, AllocError> {

@@ -2,12 +2,12 @@
 ghost use mathlib.Core.Path.{_≡_};
 ghost use Prim.Native.Nat.{_≤_};
 ghost use Rattle.modem.specs.TisStream.{tisCount};
-use crate::numbers::natural;
-use crate::script::Trouble;
-use crate::settings::set_numbers;
-use crate::text::print_steps;
 use cells::Qam;
 use cells::QamConstellation;
+use desk::numbers::natural;
+use desk::settings::set_numbers;
+use desk::text::print_steps;
+use desk::trouble::Trouble;
 use modem::Reading;
 use modem::StreamFault;
 use modem::read_tis;

@@ -9,7 +9,7 @@ use std::alloc::Global;
 ghost use mathlib.Core.Path.{_≡_};
 ghost use Prim.Native.Nat.{_+_, _*_, _≤_, _<_};
 ghost use lib.ListN.{length, getD, drop, replicate};
-ghost use Rattle.std.specs.Of.Vec.{vec-items};
+ghost use Rattle.std.specs.Of.Vec.{vec-items, vec-len};
 ghost use Rattle.std.specs.Vec.{made};
 ghost use Rattle.packets.specs.Packets.{contentOf};
 ghost use Rattle.messages.specs.CollectorCalls.{newCollector, noneThere, allTrue, anyTrue, completes, known, misplaced as misplacedAt, wrongLength, behind as behindLast, begun, placed, written, noneMissing, Placing-in, Taking, Fetching};
@@ -49,7 +49,7 @@ fn write_at(bytes: &mut [u8], at: usize, piece: &[u8])
 }
 
 fn zeros(heap: Global) -> Result<Vec<u8>, AllocError>
-    ensures { λ r. ⌜ made r (λ v. vec-items v ≡ replicate 16384 0) ⌝ }
+    ensures { λ r. ⌜ made r (λ v. (vec-items v ≡ replicate 16384 0) × (vec-len v ≡ 16384)) ⌝ }
 {
     let mut bytes = Vec::with_capacity(heap, 16384)?;
     bytes.resize(16384, 0)?;

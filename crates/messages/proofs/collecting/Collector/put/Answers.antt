@@ -12,13 +12,6 @@ use Rattle.messages.specs.Views.{collectorState}
 use Rattle.messages.proofs.Collectors.{is-completes, is-placed}
 use Rattle.messages.proofs.collecting.Collector.put.Needs as need
 
-pub ghost-self : need.ghost-self
-ghost-self c = (search needs, (search needs, (search needs, (search needs, (search needs, (search (needs, refilled-is), tt))))))
-
-pub ghost-self-else-none-missing : need.ghost-self-else-none-missing
-ghost-self-else-none-missing c =
-    (search needs, (search needs, (search needs, (search needs, (search needs, (search (needs, refilled-is), tt))))))
-
 pub returns-then-none-missing : need.returns-then-none-missing
 returns-then-none-missing c =
     let s : CollectorState = collectorState (c .args .self .now) in

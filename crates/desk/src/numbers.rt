@@ -1,7 +1,7 @@
 // The numbers of a script: decimal, with `-` in front of a negative one.
 ghost use Prim.Native.Nat.{_≤_};
 ghost use Rattle.std.specs.Vec.{made};
-use crate::script::Trouble;
+use crate::trouble::Trouble;
 
 // A number from 0 to `most`.
 pub fn natural(word: &str, most: u32) -> Result<u32, Trouble>

@@ -1,7 +1,7 @@
 // Words `I=V`, which change numbers of cells before they are read.
 use crate::numbers::natural;
 use crate::numbers::signed;
-use crate::script::Trouble;
+use crate::trouble::Trouble;
 use cells::Cell;
 
 // Sets one number of the cells, by a word `I=V`.

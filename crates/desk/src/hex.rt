@@ -1,7 +1,7 @@
 // Bytes of a script: hexadecimal, two digits a byte.
 ghost use Prim.Native.Nat.{_<_};
 ghost use Rattle.std.specs.Options.{Cases};
-use crate::script::Trouble;
+use crate::trouble::Trouble;
 use std::alloc::AllocError;
 use std::alloc::Global;
 

@@ -2,7 +2,7 @@
 use crate::hex::hex_text;
 use crate::hex::read_hex;
 use crate::numbers::natural;
-use crate::script::Trouble;
+use crate::trouble::Trouble;
 use packets::Header;
 use packets::Packet;
 use packets::read_packet;
