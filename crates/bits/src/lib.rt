@@ -1,4 +1,6 @@
 // Bits of a stream: fields highest bit first, symbols, bytes, checks, and scrambling.
+#![tactic(auto)]
+
 mod bytes;
 mod check16;
 mod crc;

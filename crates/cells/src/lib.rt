@@ -1,4 +1,6 @@
 // Cells and constellations: bits to points of the plane, and back by deciding.
+#![tactic(auto)]
+
 mod cell;
 mod constellation;
 mod mapping;

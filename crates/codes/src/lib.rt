@@ -1,4 +1,6 @@
 // Symbols and codes: what a code of the frame layer owes, for every kind of symbol.
+#![tactic(auto)]
+
 pub mod lengths;
 pub mod seven;
 pub mod symbols;

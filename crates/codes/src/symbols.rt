@@ -36,14 +36,14 @@ impl Symbol for bool {
 
 // 1 where two symbols differ, else 0.
 fn differs<S: Symbol>(x: S, y: S) -> usize
-    ensures { result ≡ apart (number x) (number y) }
+    ensures { result ≡ apart (S.number x) (S.number y) }
 {
     if x.to_number() == y.to_number() { 0 } else { 1 }
 }
 
 // In how many places two runs of symbols differ; a place that only one of them has counts too.
 pub fn count_differing<S: Symbol>(a: &[S], b: &[S]) -> usize
-    ensures { result ≡ differing number a.now b.now }
+    ensures { result ≡ differing S.number a.now b.now }
 {
     let shared = a.len().min(b.len());
     let mut count = 0;

@@ -1,4 +1,6 @@
 // What the commands of a script share: numbers, bytes and cells, read and printed.
+#![tactic(auto)]
+
 pub mod hex;
 pub mod numbers;
 pub mod packet;

@@ -1,4 +1,6 @@
 // The printed figures by one proof, and outside figures as tests.
+#![tactic(auto)]
+
 ghost use Rattle.std.specs.Prelude.{◌≡◌, ◌<◌};
 ghost use Rattle.cells.specs.Qam.{qam_point};
 ghost use Rattle.cells.specs.declared.cell.Order.TheVariants.{Four};

@@ -1,4 +1,6 @@
 // What happens to a message between load and fetch: it is cut into pieces, sent in packets, and collected again.
+#![tactic(auto)]
+
 mod collecting;
 mod content;
 mod sending;

@@ -1,4 +1,6 @@
 // A stream's symbols on cells and back, and the MIS and the TIS whole.
+#![tactic(auto)]
+
 mod carrying;
 mod fault;
 mod mis;

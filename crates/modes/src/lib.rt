@@ -1,4 +1,6 @@
 // The mode of a frame, and the station that sends it.
+#![tactic(auto)]
+
 mod mode;
 mod rate;
 mod station;

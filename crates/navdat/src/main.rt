@@ -1,4 +1,6 @@
 // The desk program: a script of commands in, what the library's calls answer out.
+#![tactic(auto)]
+
 mod drafts;
 mod mis;
 mod script;

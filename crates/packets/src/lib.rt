@@ -1,4 +1,6 @@
 // Packets: a header, data and a check, one packet to a block.
+#![tactic(auto)]
+
 mod parts;
 mod reading;
 mod writing;

@@ -1,4 +1,6 @@
 // Reed-Solomon codes over GF(128), by their roots.
+#![tactic(auto)]
+
 mod encode;
 pub mod field;
 mod mend;

@@ -1,4 +1,6 @@
 // The staircase code: check groups that each add a row sum of the message to the one before.
+#![tactic(auto)]
+
 mod checks;
 pub mod code;
 pub mod coding;

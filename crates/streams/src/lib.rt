@@ -1,4 +1,6 @@
 // The records of the streams: the MIS and the TIS.
+#![tactic(auto)]
+
 mod records;
 mod tis;
 

@@ -4,7 +4,7 @@ use Rattle.codes.proofs.symbols.count_differing.Goals as goal
 
 pub loop-i-preserved : goal.loop-i-preserved
 loop-i-preserved g c =
-    let number = g.S-as-Symbol.number in
+    let number = g.S.Symbol.number in
     let x = c.index-a-i.result in
     let y = c.index-b-i.result in
     let step = differing_more number c.args.a.now c.args.b.now c.loop-i.i x y (omega arith) (omega arith) c.index-a-i.is c.index-b-i.is in
@@ -13,5 +13,5 @@ loop-i-preserved g c =
 
 pub returns : goal.returns
 returns g c =
-    let rest = differing_rest g.S-as-Symbol.number c.args.a.now c.args.b.now c.loop-i.i (omega arith) in
+    let rest = differing_rest g.S.Symbol.number c.args.a.now c.args.b.now c.loop-i.i (omega arith) in
     omega arith
