@@ -25,7 +25,7 @@ fn fill_up(bits: &[bool], cell: &mut [bool])
 
 // Maps the next bits of a stream on a cell, which is (0, 0) where none is left.
 fn map_next<Q: Constellation>(points: &Q, order: Order, bits: &[bool], cell: &mut Cell)
-    ensures { cell.new ≡ next_cell (point points.now order) (cell_bits order) bits.now }
+    ensures { cell.new ≡ next_cell (Q.point points.now order) (cell_bits order) bits.now }
 {
     if bits.is_empty() {
         *cell = ORIGIN;
@@ -40,7 +40,7 @@ fn map_next<Q: Constellation>(points: &Q, order: Order, bits: &[bool], cell: &mu
 // Maps a stream on its cells, in order. Missing bits of its last cell are 0, and further cells are (0, 0).
 pub fn map_bits<Q: Constellation>(points: &Q, order: Order, bits: &[bool], cells: &mut [Cell])
     requires { length bits.now ≤ cell_bits order * length cells.old }
-    ensures { cells.new ≡ mapped (point points.now order) (cell_bits order) (length cells.old) bits.now }
+    ensures { cells.new ≡ mapped (Q.point points.now order) (cell_bits order) (length cells.old) bits.now }
 {
     let width = order.cell_bits();
     let mut rest = bits;
@@ -53,7 +53,7 @@ pub fn map_bits<Q: Constellation>(points: &Q, order: Order, bits: &[bool], cells
 // The first bits that a cell is decided for.
 fn decide_part<Q: Constellation>(points: &Q, order: Order, cell: Cell, bits: &mut [bool])
     requires { length bits.old ≤ cell_bits order }
-    ensures { bits.new ≡ take (length bits.old) (decided points.now order cell) }
+    ensures { bits.new ≡ take (length bits.old) (Q.decided points.now order cell) }
 {
     let mut store = [false; MOST_BITS];
     let all = &mut store[0..order.cell_bits()];
@@ -64,8 +64,8 @@ fn decide_part<Q: Constellation>(points: &Q, order: Order, cell: Cell, bits: &mu
 // Decides the bits of a stream from its cells. What its last cell has beyond them, and further cells, are ignored.
 pub fn decide_bits<Q: Constellation>(points: &Q, order: Order, cells: &[Cell], bits: &mut [bool])
     requires { length bits.old ≤ cell_bits order * length cells.now }
-    ensures value { bits.new ≡ take (length bits.old) (decided_bits (decided points.now order) cells.now) }
-    ensures as_sent { (sent : List Bool) → length sent ≡ length bits.old → Moved (mapped (point points.now order) (cell_bits order) (length cells.now) sent) cells.now → bits.new ≡ sent }
+    ensures value { bits.new ≡ take (length bits.old) (decided_bits (Q.decided points.now order) cells.now) }
+    ensures as_sent { (sent : List Bool) → length sent ≡ length bits.old → Moved (mapped (Q.point points.now order) (cell_bits order) (length cells.now) sent) cells.now → bits.new ≡ sent }
 {
     let width = order.cell_bits();
     let mut done = 0;

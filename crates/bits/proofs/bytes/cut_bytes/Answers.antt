@@ -19,7 +19,7 @@ overflow-cast-bytes c =
 pub loop-i-preserved : goal.loop-i-preserved
 loop-i-preserved c =
     let eight : 8 * c.loop-i.i + 8 - 8 * c.loop-i.i ≡ 8 = omega arith in
-    let r = rw eight at c.read-number.ensures in
+    let r = rw eight at c.read_number.ensures in
     let m = cut_more 8 c.args.bits.now c.args.bytes.now c.loop-i.bytes c.loop-i.i c.loop-i-test.true c.loop-i.invariant in
     cc
 

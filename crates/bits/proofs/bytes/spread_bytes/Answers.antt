@@ -13,8 +13,8 @@ loop-i-preserved c =
     let i = c.loop-i.i in
     let eight : 8 * c.loop-i.i + 8 - 8 * c.loop-i.i ≡ 8 = omega arith in
     rw eight
-    (spread_more 8 c.args.bytes.now c.args.bits.now c.loop-i.bits c.write-number.new.bits i c.from.result
-    c.loop-i-test.true (omega arith) c.loop-i.invariant (rw eight at c.write-number.ensures) c.from.ensures)
+    (spread_more 8 c.args.bytes.now c.args.bits.now c.loop-i.bits c.write_number.new.bits i c.from.result
+    c.loop-i-test.true (omega arith) c.loop-i.invariant (rw eight at c.write_number.ensures) c.from.ensures)
 
 pub returns : goal.returns
 returns c =

@@ -19,7 +19,7 @@ overflow-cast-symbols c =
 pub loop-i-preserved : goal.loop-i-preserved
 loop-i-preserved c =
     let seven : 7 * c.loop-i.i + 7 - 7 * c.loop-i.i ≡ 7 = omega arith in
-    let r = rw seven at c.read-number.ensures in
+    let r = rw seven at c.read_number.ensures in
     let m = cut_more 7 c.args.bits.now c.args.symbols.now c.loop-i.symbols c.loop-i.i c.loop-i-test.true c.loop-i.invariant in
     cc
 

@@ -13,8 +13,8 @@ loop-i-preserved c =
     let i = c.loop-i.i in
     let seven : 7 * c.loop-i.i + 7 - 7 * c.loop-i.i ≡ 7 = omega arith in
     rw seven
-    (spread_more 7 c.args.symbols.now c.args.bits.now c.loop-i.bits c.write-number.new.bits i c.from.result
-    c.loop-i-test.true (omega arith) c.loop-i.invariant (rw seven at c.write-number.ensures) c.from.ensures)
+    (spread_more 7 c.args.symbols.now c.args.bits.now c.loop-i.bits c.write_number.new.bits i c.from.result
+    c.loop-i-test.true (omega arith) c.loop-i.invariant (rw seven at c.write_number.ensures) c.from.ensures)
 
 pub returns : goal.returns
 returns c =

@@ -16,10 +16,10 @@ loop-cell-preserved g c =
     let part = c.min-part.result in
     let more = mul-add (cell_bits o) i 1 in
     let room : length (take ((done + part) - done) (drop done c.loop-cell.bits)) ≡ part = simp (length-take, length-drop) (omega arith) in
-    let written : c.decide-part.new.bits ≡ take part (d (get_or cells i origin)) =
-    c.decide-part.ensures ∙ ap (λ (n : ℕ). take n (d (get_or cells i origin))) room in (
+    let written : c.decide_part.new.bits ≡ take part (d (get_or cells i origin)) =
+    c.decide_part.ensures ∙ ap (λ (n : ℕ). take n (d (get_or cells i origin))) room in (
       omega arith,
-      part_decided d (cell_bits o) (g.met.Q.Constellation.sized q o) cells c.args.bits.now c.loop-cell.bits c.decide-part.new.bits
+      part_decided d (cell_bits o) (g.met.Q.Constellation.sized q o) cells c.args.bits.now c.loop-cell.bits c.decide_part.new.bits
           i done part ((done + part) - done) origin (omega arith) c.loop-cell.invariant.0 (omega arith) (omega arith) c.loop-cell.invariant.1 written,
     )
 
@@ -39,6 +39,6 @@ returns g c =
     rw (all, last, whole, none, append-nil) at c.loop-cell.invariant.1 in
     record {
       value = bits;
-      as-sent = λ sent e moved.
+      as_sent = λ sent e moved.
           rw (bits, ← e) (steady_stream (g.Q.Constellation.point q o) (cell_bits o) d (g.met.Q.Constellation.steady q o) (length cells) sent cells (omega arith) moved);
     }

@@ -8,8 +8,8 @@ returns c =
     let bits = c.args.bits.now in
     let width = length c.args.cell.now in
     let k = c.min-present.result - 0 in
-    let front : c.copy-from-slice.new.self ≡ take width bits =
-    c.copy-from-slice.ensures.after ∙ take_within k width bits (omega arith) in
+    let front : c.copy_from_slice.new.self ≡ take width bits =
+    c.copy_from_slice.ensures.after ∙ take_within k width bits (omega arith) in
     let zeros : c.fill.new.self ≡ replicate width false = cc (c.fill.ensures.after (λ y e. e)) in
     let left : width - k ≡ width - length bits = omega arith in
     rw (front, zeros, drop-replicate, left)

@@ -14,9 +14,9 @@ loop-cell-preserved g c =
     let w = cell_bits c.args.order in
     let bits = c.args.bits.now in
     let i = c.loop-cell.cell-index in
-    let cell : c.map-next.new.cell ≡ next_cell p w (drop (w * i) bits) = cc (c.map-next.ensures, c.loop-cell.invariant.0) in (
+    let cell : c.map_next.new.cell ≡ next_cell p w (drop (w * i) bits) = cc (c.map_next.ensures, c.loop-cell.invariant.0) in (
       rest_left p w bits c.loop-cell.rest.now i c.min.result (omega arith) c.loop-cell.invariant.0,
-      cell_mapped p w bits c.args.cells.now c.loop-cell.cells c.map-next.new.cell i (omega arith) c.loop-cell.invariant.1 cell,
+      cell_mapped p w bits c.args.cells.now c.loop-cell.cells c.map_next.new.cell i (omega arith) c.loop-cell.invariant.1 cell,
     )
 
 pub returns : goal.returns

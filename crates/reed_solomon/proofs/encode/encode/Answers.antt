@@ -10,8 +10,8 @@ divide-requires c =
     record {
       some = c.requires.some;
       size = search (rules, places);
-      below = c.requires.generator-below;
-      symbols-below = c.requires.below;
+      below = c.requires.generator_below;
+      symbols_below = c.requires.below;
       rest_below = rw (c.fill.ensures.after (λ y e. e)) (symbols_zeros _);
     }
 
@@ -23,6 +23,6 @@ returns c =
     let n : length c.fill.new.self ≡ length g = search (rules, places) in
     let zeros : c.fill.new.self ≡ replicate (length g) 0 =
     c.fill.ensures.after (λ y e. e) ∙ ap (λ k. replicate k 0) (sym c.fill.ensures.len ∙ n) in
-    put_behind (length m) c.copy-from-slice.new.self _ c.divide.new.rest (ap length c.copy-from-slice.ensures.after)
-    ∙ ap (λ x. x ++ c.divide.new.rest) c.copy-from-slice.ensures.after
+    put_behind (length m) c.copy_from_slice.new.self _ c.divide.new.rest (ap length c.copy_from_slice.ensures.after)
+    ∙ ap (λ x. x ++ c.divide.new.rest) c.copy_from_slice.ensures.after
     ∙ ap (λ x. m ++ x) (c.divide.ensures ∙ ap (λ x. divided g x m) zeros)

@@ -17,9 +17,9 @@ returns-then-number-eq0 c =
     let k = length c.args.message.now in
     let first : value_at 1 given ≡ 0 = cc in
     let whole : k - 0 ≡ k = omega arith in
-    let front : c.copy-from-slice.new.self ≡ take k given = c.copy-from-slice.ensures.after ∙ ap (λ n. take n given) whole in
+    let front : c.copy_from_slice.new.self ≡ take k given = c.copy_from_slice.ensures.after ∙ ap (λ n. take n given) whole in
     subst (λ (m : List ℕ). Near c.args.roots k given m 0) (sym front)
-    (none_wrong c.args.roots given c.requires.two c.requires.short c.requires.below k c.requires.size first c.if-not-steps-by.ensures)
+    (none_wrong c.args.roots given c.requires.two c.requires.short c.requires.below k c.requires.size first c.if-not-steps_by.ensures)
 
 pub returns-in-default : goal.returns-in-default
 returns-in-default c =
@@ -31,11 +31,11 @@ returns c =
     let given = c.args.given.now in
     let k = length c.args.message.now in
     let p = c.in-Some.place in
-    let value = c.value-at-first.result in
+    let value = c.value_at-first.result in
     let first : 0 < value_at 1 given = omega arith in
     let up = times_power value.number (127 - p) value.below in
     let error : c.product.result.number ≡ raised (127 - p) (value_at 1 given) = cc in
-    let front : c.write-changed.new.message ≡ take k (changed given p (raised (127 - p) (value_at 1 given))) =
-    c.write-changed.ensures ∙ ap (λ e. take k (changed given p e)) error in
+    let front : c.write_changed.new.message ≡ take k (changed given p (raised (127 - p) (value_at 1 given))) =
+    c.write_changed.ensures ∙ ap (λ e. take k (changed given p e)) error in
     subst (λ (m : List ℕ). Near c.args.roots k given m 1) (sym front)
     (one_mended c.args.roots given c.requires.two c.requires.short c.requires.below k c.requires.size p c.in-Some.ensures.0 first c.in-Some.ensures.1)

@@ -21,7 +21,7 @@ loop-j-preserved c =
     let up = times_power value.number place value.below in
     let is = c.loop-j.invariant.0 in
     let here : value_at (c.loop-j.j + 1) given ≡ raised place (value_at c.loop-j.j given) = cc in (
-      c.value-at-next.ensures,
+      c.value_at-next.ensures,
       λ j h l.
           ⊎_elim (c.loop-j.invariant.1 j h)
           (λ k. let e : c.loop-j.j ≡ j = omega arith in subst (λ n. value_at (n + 1) given ≡ raised place (value_at n given)) e here)

@@ -13,7 +13,7 @@ returns-then-at-k c =
     let given = c.args.given.now in
     let at = length given - 1 - c.args.place in
     let whole : length c.args.message.now - 0 ≡ length c.args.message.now = omega arith in
-    let front : c.copy-from-slice.new.self ≡ take (length c.args.message.now) given = c.copy-from-slice.ensures.after ∙ ap (λ n. take n given) whole in
+    let front : c.copy_from_slice.new.self ≡ take (length c.args.message.now) given = c.copy_from_slice.ensures.after ∙ ap (λ n. take n given) whole in
     let e = take-set-below (length c.args.message.now) given at (bit_xor (get_or given at 0) c.args.error.number) c.if-at-k.true in
     cc
 
@@ -22,5 +22,5 @@ returns-else-at-k c =
     let given = c.args.given.now in
     let at = length given - 1 - c.args.place in
     let whole : length c.args.message.now - 0 ≡ length c.args.message.now = omega arith in
-    let front : c.copy-from-slice.new.self ≡ take (length c.args.message.now) given = c.copy-from-slice.ensures.after ∙ ap (λ n. take n given) whole in
+    let front : c.copy_from_slice.new.self ≡ take (length c.args.message.now) given = c.copy_from_slice.ensures.after ∙ ap (λ n. take n given) whole in
     front ∙ sym (take-set-le (length c.args.message.now) given at (bit_xor (get_or given at 0) c.args.error.number) c.if-at-k.false)

@@ -6,7 +6,7 @@ use Rattle.reed_solomon.proofs.Steps.{divided_more, divided_all}
 use Rattle.reed_solomon.proofs.polynomials.divide.Goals as goal
 
 pub of-requires : goal.of-requires
-of-requires c = symbols_at c.args.symbols.now c.loop-c.c-index c.requires.symbols-below
+of-requires c = symbols_at c.args.symbols.now c.loop-c.c-index c.requires.symbols_below
 
 pub loop-c-preserved : goal.loop-c-preserved
 loop-c-preserved c =

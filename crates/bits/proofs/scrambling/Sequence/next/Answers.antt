@@ -7,5 +7,5 @@ pub returns : goal.returns
 returns c =
     record {
       value = refl;
-      after = renewed c.args.self.now.earlier c.rotate-right.new.self (following c.args.self.now.earlier) (search rules) c.rotate-right.ensures.after;
+      after = renewed c.args.self.now.earlier c.rotate_right.new.self (following c.args.self.now.earlier) (search rules) c.rotate_right.ensures.after;
     }

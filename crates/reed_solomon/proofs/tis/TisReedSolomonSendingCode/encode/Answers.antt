@@ -8,6 +8,6 @@ encode-requires c =
     record {
       some = omega arith;
       room = omega arith;
-      generator-below = rw c.generator.ensures (generator_is 20).symbols;
+      generator_below = rw c.generator.ensures (generator_is 20).symbols;
       below = c.requires.below;
     }
