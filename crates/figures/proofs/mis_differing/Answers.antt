@@ -9,14 +9,14 @@ use Rattle.figures.proofs.mis_differing.Goals as goal
 
 pub returns : goal.returns
 returns c =
-    let a = ap (λ (t : MisTrace). t.word) c.write-mis-first.ensures.steps in
-    let b = ap (λ (t : MisTrace). t.word) c.write-mis-second.ensures.steps in
-    let p = ap (λ (t : MisTrace). t.scrambled) c.write-mis-first.ensures.steps in
-    let q = ap (λ (t : MisTrace). t.scrambled) c.write-mis-second.ensures.steps in
-    let count : c.count-differing-2.result ≡ differing (λ (x : ℕ). x) (mis_word (mis_message c.args.one)) (mis_word (mis_message c.args.other)) =
-    c.count-differing-2.ensures ∙ ap (λ l. differing (λ (x : ℕ). x) l c.write-mis-second.result.word) a ∙ ap (differing (λ (x : ℕ). x) (mis_word (mis_message c.args.one))) b in
+    let a = ap (λ (t : MisTrace). t.word) c.write_mis-first.ensures.steps in
+    let b = ap (λ (t : MisTrace). t.word) c.write_mis-second.ensures.steps in
+    let p = ap (λ (t : MisTrace). t.scrambled) c.write_mis-first.ensures.steps in
+    let q = ap (λ (t : MisTrace). t.scrambled) c.write_mis-second.ensures.steps in
+    let count : c.count_differing-2.result ≡ differing (λ (x : ℕ). x) (mis_word (mis_message c.args.one)) (mis_word (mis_message c.args.other)) =
+    c.count_differing-2.ensures ∙ ap (λ l. differing (λ (x : ℕ). x) l c.write_mis-second.result.word) a ∙ ap (differing (λ (x : ℕ). x) (mis_word (mis_message c.args.one))) b in
     record {
-      bits = c.count-differing.ensures ∙ ap (λ l. differing bit_number l c.write-mis-second.result.scrambled) p ∙ ap (differing bit_number (scrambled 0 (mis_record c.args.one))) q;
+      bits = c.count_differing.ensures ∙ ap (λ l. differing bit_number l c.write_mis-second.result.scrambled) p ∙ ap (differing bit_number (scrambled 0 (mis_record c.args.one))) q;
       symbols = count;
-      apart = λ few. c.write-mis-first.ensures.apart c.args.other (subst (λ (n : ℕ). n < 3) count few);
+      apart = λ few. c.write_mis-first.ensures.apart c.args.other (subst (λ (n : ℕ). n < 3) count few);
     }

@@ -36,4 +36,4 @@ figures =
     }
 
 pub returns : goal.returns
-returns c = record { steps = c.write-mis.ensures.steps; printed = figures }
+returns c = record { steps = c.write_mis.ensures.steps; printed = figures }

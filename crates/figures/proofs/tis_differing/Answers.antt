@@ -7,8 +7,8 @@ use Rattle.figures.proofs.tis_differing.Goals as goal
 
 pub returns : goal.returns
 returns c =
-    let a = ap (λ (t : TisTrace). t.word) c.write-tis-first.ensures.steps in
-    let b = ap (λ (t : TisTrace). t.word) c.write-tis-second.ensures.steps in
-    let count : c.count-differing.result ≡ differing (λ (x : ℕ). x) (tis_word (tis_message c.args.one)) (tis_word (tis_message c.args.other)) =
-    c.count-differing.ensures ∙ ap (λ l. differing (λ (x : ℕ). x) l c.write-tis-second.result.word) a ∙ ap (differing (λ (x : ℕ). x) (tis_word (tis_message c.args.one))) b in
-    record { count = count; apart = λ few. c.write-tis-first.ensures.apart c.args.other (subst (λ (n : ℕ). n < 21) count few) }
+    let a = ap (λ (t : TisTrace). t.word) c.write_tis-first.ensures.steps in
+    let b = ap (λ (t : TisTrace). t.word) c.write_tis-second.ensures.steps in
+    let count : c.count_differing.result ≡ differing (λ (x : ℕ). x) (tis_word (tis_message c.args.one)) (tis_word (tis_message c.args.other)) =
+    c.count_differing.ensures ∙ ap (λ l. differing (λ (x : ℕ). x) l c.write_tis-second.result.word) a ∙ ap (differing (λ (x : ℕ). x) (tis_word (tis_message c.args.one))) b in
+    record { count = count; apart = λ few. c.write_tis-first.ensures.apart c.args.other (subst (λ (n : ℕ). n < 21) count few) }

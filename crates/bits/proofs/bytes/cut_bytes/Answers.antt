@@ -8,13 +8,13 @@ pub loop-i-init : goal.loop-i-init
 unfolding cut
 loop-i-init c = refl
 
-pub overflow-cast-bytes : goal.overflow-cast-bytes
-overflow-cast-bytes c =
+pub overflow_cast-bytes : goal.overflow_cast-bytes
+overflow_cast-bytes c =
     let eight : 8 * c.loop-i.i + 8 - 8 * c.loop-i.i ≡ 8 = omega arith in
     let part = take 8 (drop (8 * c.loop-i.i) c.args.bits.now) in
     let q : length part ≤ 8 = rw length-take (omega arith) in
     let p : 2 ^ length part ≤ 2 ^ 8 = pow_mono q in
-    omega (arith, rw eight at c.read-number.ensures, number_of-below part)
+    omega (arith, rw eight at c.read_number.ensures, number_of-below part)
 
 pub loop-i-preserved : goal.loop-i-preserved
 loop-i-preserved c =

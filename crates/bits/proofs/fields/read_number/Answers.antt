@@ -8,11 +8,11 @@ pub loop-bit-init : goal.loop-bit-init
 unfolding number_of
 loop-bit-init c = refl
 
-pub overflow-mul-number : goal.overflow-mul-number
-overflow-mul-number c = omega (arith, front_below c.args.bits.now c.loop-bit.bit-index c.loop-bit-test.true c.requires)
+pub overflow_mul-number : goal.overflow_mul-number
+overflow_mul-number c = omega (arith, front_below c.args.bits.now c.loop-bit.bit-index c.loop-bit-test.true c.requires)
 
-pub overflow-add-number : goal.overflow-add-number
-overflow-add-number c =
+pub overflow_add-number : goal.overflow_add-number
+overflow_add-number c =
     omega (
       arith,
       front_below c.args.bits.now c.loop-bit.bit-index c.loop-bit-test.true c.requires,

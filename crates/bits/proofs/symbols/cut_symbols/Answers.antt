@@ -8,13 +8,13 @@ pub loop-i-init : goal.loop-i-init
 unfolding cut
 loop-i-init c = refl
 
-pub overflow-cast-symbols : goal.overflow-cast-symbols
-overflow-cast-symbols c =
+pub overflow_cast-symbols : goal.overflow_cast-symbols
+overflow_cast-symbols c =
     let seven : 7 * c.loop-i.i + 7 - 7 * c.loop-i.i ≡ 7 = omega arith in
     let part = take 7 (drop (7 * c.loop-i.i) c.args.bits.now) in
     let q : length part ≤ 7 = rw length-take (omega arith) in
     let p : 2 ^ length part ≤ 2 ^ 7 = pow_mono q in
-    omega (arith, rw seven at c.read-number.ensures, number_of-below part)
+    omega (arith, rw seven at c.read_number.ensures, number_of-below part)
 
 pub loop-i-preserved : goal.loop-i-preserved
 loop-i-preserved c =

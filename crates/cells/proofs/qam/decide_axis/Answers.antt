@@ -6,8 +6,8 @@ use Rattle.cells.specs.Qam.{amplitude, decided_number, floor_at0}
 use Rattle.cells.specs.Axis.{nearest, floor_at0_is}
 use Rattle.cells.proofs.qam.decide_axis.Goals as goal
 
-pub overflow-cast-result : goal.overflow-cast-result
-overflow-cast-result c = (omega (arith, ints, clamps), omega (arith, ints, clamps))
+pub overflow_cast-result : goal.overflow_cast-result
+overflow_cast-result c = (omega (arith, ints, clamps), omega (arith, ints, clamps))
 
 pub returns : goal.returns
 returns c =

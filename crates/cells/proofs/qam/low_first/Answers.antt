@@ -18,11 +18,11 @@ bit_is : (b : Bool) → (bool_byte b ≡ cond b 1 0) × (bool_byte b ≤ 1)
 bit_is true = (refl, omega arith)
 bit_is false = (refl, omega arith)
 
-pub overflow-mul-v : goal.overflow-mul-v
-overflow-mul-v c = let h = small c in search rules
+pub overflow_mul-v : goal.overflow_mul-v
+overflow_mul-v c = let h = small c in search rules
 
-pub overflow-add-v : goal.overflow-add-v
-overflow-add-v c =
+pub overflow_add-v : goal.overflow_add-v
+overflow_add-v c =
     let h = small c in
     let b = bit_is (get_or c.args.bits.now (c.loop-i.i - 1) false) in
     let e = c.from.ensures in

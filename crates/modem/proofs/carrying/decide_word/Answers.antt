@@ -5,5 +5,5 @@ use Rattle.modem.proofs.carrying.decide_word.Goals as goal
 pub returns : goal.returns
 returns g c =
     let n = length c.args.word.now in
-    let size : length c.decide-bits.new.bits ≡ length c.args.word.now * 7 = search rules in
-    c.cut-symbols.ensures ∙ cut_taken n _ c.decide-bits.new.bits _ c.decide-bits.ensures.value size
+    let size : length c.decide_bits.new.bits ≡ length c.args.word.now * 7 = search rules in
+    c.cut_symbols.ensures ∙ cut_taken n _ c.decide_bits.new.bits _ c.decide_bits.ensures.value size

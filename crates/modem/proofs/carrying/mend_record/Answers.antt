@@ -6,17 +6,17 @@ use Rattle.modem.proofs.carrying.mend_record.Goals as goal
 
 pub mend-requires : goal.mend-requires
 mend-requires g c =
-    let size : length c.decide-word.new.word ≡ c.word-length.result = search rules in
+    let size : length c.decide_word.new.word ≡ c.word_length.result = search rules in
     record {
-      size = size ∙ c.word-length.ensures;
-      below = rw c.decide-word.ensures (cut-below_128 _ _);
+      size = size ∙ c.word_length.ensures;
+      below = rw c.decide_word.ensures (cut-below_128 _ _);
       room = c.requires.size;
     }
 
-pub returns-in-err-mended : goal.returns-in-err-mended
-returns-in-err-mended g c =
+pub returns-in_err-mended : goal.returns-in_err-mended
+returns-in_err-mended g c =
     let p = err_from_is_err_and c.from-residual.result c.from-residual.ensures.1 in
-    let size : length c.decide-word.new.word ≡ c.word-length.result = search rules in
-    let same = given_symbols _ _ _ c.decide-word.new.word c.args.cells.now c.decide-word.ensures (size ∙ c.word-length.ensures) in
-    let none = c.in-err-mended.ensures in
+    let size : length c.decide_word.new.word ≡ c.word_length.result = search rules in
+    let same = given_symbols _ _ _ c.decide_word.new.word c.args.cells.now c.decide_word.ensures (size ∙ c.word_length.ensures) in
+    let none = c.in_err-mended.ensures in
     rw p.1 (none.0, refl, λ m e w. none.1 m e (within_given _ _ _ _ _ m e same w))

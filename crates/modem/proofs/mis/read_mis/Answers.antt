@@ -45,22 +45,22 @@ module _ (g : given.Over) (code : g.row.C.Denot) (points : g.row.Q.Denot) (cells
       mended_sizes (g.C.SendingCode.message_length code) 2 (g.C.SendingCode.word_length code) 4 (g.C.SendingCode.word code) (g.C.MendingCode.reach code) (g.Q.Constellation.decided points Four)
       cells before after bitsBefore bitsAfter r (g.met.C.MisCode.two code) (g.met.C.MisCode.four code)
 
-pub returns-in-err-mended : goal.returns-in-err-mended
-returns-in-err-mended g c =
+pub returns-in_err-mended : goal.returns-in_err-mended
+returns-in_err-mended g c =
     let p = err_from_is_err_and c.from-residual.result c.from-residual.ensures.1 in
-    let none = sizes g c.args.code.now c.args.points.now c.args.cells.now _ _ _ _ (Err c.in-err-mended.field-0.0) c.in-err-mended.ensures in
+    let none = sizes g c.args.code.now c.args.points.now c.args.cells.now _ _ _ _ (Err c.in_err-mended.field-0.0) c.in_err-mended.ensures in
     full g c.args.code.now c.args.points.now c.args.cells.now c.from-residual.result (rw (p.1, p.2) none.2)
 
-pub returns-in-err-stated : goal.returns-in-err-stated
-returns-in-err-stated g c =
-    let p = err_from_is_err_and c.from-residual-in-err-stated.result c.from-residual-in-err-stated.ensures.1 in
-    let got = sizes g c.args.code.now c.args.points.now c.args.cells.now [] c.mend-record.new.message [] c.mend-record.new.bits (Ok c.in-ok-mended.mended) c.in-ok-mended.ensures in
-    full g c.args.code.now c.args.points.now c.args.cells.now c.from-residual-in-err-stated.result
-    (rw (p.1, p.2) (c.mend-record.new.message, c.in-ok-mended.mended, got.0, ap mis_read (sym got.1) ∙ sym c.in-err-stated.ensures.value))
+pub returns-in_err-stated : goal.returns-in_err-stated
+returns-in_err-stated g c =
+    let p = err_from_is_err_and c.from-residual-in_err-stated.result c.from-residual-in_err-stated.ensures.1 in
+    let got = sizes g c.args.code.now c.args.points.now c.args.cells.now [] c.mend_record.new.message [] c.mend_record.new.bits (Ok c.in_ok-mended.mended) c.in_ok-mended.ensures in
+    full g c.args.code.now c.args.points.now c.args.cells.now c.from-residual-in_err-stated.result
+    (rw (p.1, p.2) (c.mend_record.new.message, c.in_ok-mended.mended, got.0, ap mis_read (sym got.1) ∙ sym c.in_err-stated.ensures.value))
 
 pub returns : goal.returns
 returns g c =
-    let got = sizes g c.args.code.now c.args.points.now c.args.cells.now [] c.mend-record.new.message [] c.mend-record.new.bits (Ok c.in-ok-mended.mended) c.in-ok-mended.ensures in
-    full g c.args.code.now c.args.points.now c.args.cells.now (Ok (record { stated = c.in-ok-stated.stated; mended = c.in-ok-mended.mended }))
-    (stated_within 2 4 _ _ _ mis_record c.args.cells.now c.mend-record.new.message c.mend-record.new.bits c.in-ok-mended.mended c.in-ok-stated.stated
-    ((c.in-ok-stated.ensures.exactly c.in-ok-stated.stated).0 refl) got.1 got.0)
+    let got = sizes g c.args.code.now c.args.points.now c.args.cells.now [] c.mend_record.new.message [] c.mend_record.new.bits (Ok c.in_ok-mended.mended) c.in_ok-mended.ensures in
+    full g c.args.code.now c.args.points.now c.args.cells.now (Ok (record { stated = c.in_ok-stated.stated; mended = c.in_ok-mended.mended }))
+    (stated_within 2 4 _ _ _ mis_record c.args.cells.now c.mend_record.new.message c.mend_record.new.bits c.in_ok-mended.mended c.in_ok-stated.stated
+    ((c.in_ok-stated.ensures.exactly c.in_ok-stated.stated).0 refl) got.1 got.0)

@@ -8,8 +8,8 @@ use Rattle.modem.proofs.mis.write_mis.Goals as goal
 pub encode-requires : goal.encode-requires
 encode-requires g c =
     record {
-      size = rw c.cut-symbols.ensures (length_cut 7 2 _ ∙ sym (g.met.C.MisCode.two c.args.code.now));
-      below = rw c.cut-symbols.ensures (cut-below_128 2 _);
+      size = rw c.cut_symbols.ensures (length_cut 7 2 _ ∙ sym (g.met.C.MisCode.two c.args.code.now));
+      below = rw c.cut_symbols.ensures (cut-below_128 2 _);
       room = sym (g.met.C.MisCode.four c.args.code.now);
     }
 

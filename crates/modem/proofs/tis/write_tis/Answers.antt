@@ -8,8 +8,8 @@ use Rattle.modem.proofs.tis.write_tis.Goals as goal
 pub encode-requires : goal.encode-requires
 encode-requires g c =
     record {
-      size = rw c.cut-symbols.ensures (length_cut 7 9 _ ∙ sym (g.met.C.TisCode.nine c.args.code.now));
-      below = rw c.cut-symbols.ensures (cut-below_128 9 _);
+      size = rw c.cut_symbols.ensures (length_cut 7 9 _ ∙ sym (g.met.C.TisCode.nine c.args.code.now));
+      below = rw c.cut_symbols.ensures (cut-below_128 9 _);
       room = sym (g.met.C.TisCode.twenty_nine c.args.code.now);
     }
 

@@ -6,41 +6,41 @@ use Rattle.packets.specs.Packets.{bad_block, content_of, fields_in, stated, wron
 use Rattle.packets.proofs.Exact.{bad_none, good_from, good_some, reads_from, size_reads}
 use Rattle.packets.proofs.reading.read_packet.Goals as goal
 
-pub returns-then-block-lt-LEAST-BLOCK : goal.returns-then-block-lt-LEAST-BLOCK
-returns-then-block-lt-LEAST-BLOCK c =
+pub returns-then-block-lt-LEAST_BLOCK : goal.returns-then-block-lt-LEAST_BLOCK
+returns-then-block-lt-LEAST_BLOCK c =
     let block = c.args.block.now in
     let bad : wrong_size (length c.args.block.now) ≡ true =
-    ⊎_elim (λ h. or_left _ _ (lt-ltb _ _ h)) (λ h. or_right _ _ (lt-ltb _ _ h.1)) c.then-block-lt-LEAST-BLOCK.either in
+    ⊎_elim (λ h. or_left _ _ (lt-ltb _ _ h)) (λ h. or_right _ _ (lt-ltb _ _ h.1)) c.then-block-lt-LEAST_BLOCK.either in
     record { value = sym (bad_none block (or_left _ _ bad)); exactly = size_reads block bad }
 
-pub returns-then-is-bad : goal.returns-then-is-bad
-returns-then-is-bad c =
+pub returns-then-is_bad : goal.returns-then-is_bad
+returns-then-is_bad c =
     let block = c.args.block.now in
-    let told = c.if-is-bad.ensures in
+    let told = c.if-is_bad.ensures in
     let bad : bad_block (fields_in (spread 8 c.args.block.now)) c.args.block.now (spread 8 c.args.block.now) ≡ true = cc in
     let none = sym (bad_none block (or_right _ _ bad)) in
     record {
       value = none;
       exactly =
-          reads_from block _ (below_from 256 block (λ i _. (c.type-inv.block i).fits))
-          (or_from _ _ (le-ltb _ _ c.if-block-lt-LEAST-BLOCK.false) (le-ltb _ _ c.if-block-gt-MOST-BLOCK.false)) none;
+          reads_from block _ (below_from 256 block (λ i _. (c.type_inv.block i).fits))
+          (or_from _ _ (le-ltb _ _ c.if-block-lt-LEAST_BLOCK.false) (le-ltb _ _ c.if-block-gt-MOST_BLOCK.false)) none;
     }
 
-pub overflow-sub-result : goal.overflow-sub-result
-overflow-sub-result c = let g = good_from _ _ _ (sym c.if-is-bad.ensures) in omega (arith, g.least)
+pub overflow_sub-result : goal.overflow_sub-result
+overflow_sub-result c = let g = good_from _ _ _ (sym c.if-is_bad.ensures) in omega (arith, g.least)
 
-pub slice-bounds-result-count : goal.slice-bounds-result-count
-slice-bounds-result-count c = let g = good_from _ _ _ (sym c.if-is-bad.ensures) in omega (arith, g.least)
+pub slice_bounds-result-count : goal.slice_bounds-result-count
+slice_bounds-result-count c = let g = good_from _ _ _ (sym c.if-is_bad.ensures) in omega (arith, g.least)
 
-pub slice-bounds-result-start : goal.slice-bounds-result-start
-slice-bounds-result-start c =
-    let g = good_from _ _ _ (sym c.if-is-bad.ensures) in
+pub slice_bounds-result-start : goal.slice_bounds-result-start
+slice_bounds-result-start c =
+    let g = good_from _ _ _ (sym c.if-is_bad.ensures) in
     let least : 7 ≤ c.of-fields.result.total = g.least in
     search rules
 
-pub slice-bounds-result-end : goal.slice-bounds-result-end
-slice-bounds-result-end c =
-    let g = good_from _ _ _ (sym c.if-is-bad.ensures) in
+pub slice_bounds-result-end : goal.slice_bounds-result-end
+slice_bounds-result-end c =
+    let g = good_from _ _ _ (sym c.if-is_bad.ensures) in
     let within : c.of-fields.result.total ≤ length c.args.block.now = g.within in
     search rules
 
@@ -48,13 +48,13 @@ pub returns : goal.returns
 returns c =
     let block = c.args.block.now in
     let f = c.of-fields.result in
-    let told = c.if-is-bad.ensures in
+    let told = c.if-is_bad.ensures in
     let right : wrong_size (length c.args.block.now) ≡ false =
-    or_from _ _ (le-ltb _ _ c.if-block-lt-LEAST-BLOCK.false) (le-ltb _ _ c.if-block-gt-MOST-BLOCK.false) in
+    or_from _ _ (le-ltb _ _ c.if-block-lt-LEAST_BLOCK.false) (le-ltb _ _ c.if-block-gt-MOST_BLOCK.false) in
     let good : bad_block (fields_in (spread 8 c.args.block.now)) c.args.block.now (spread 8 c.args.block.now) ≡ false = cc in
-    let fields : f ≡ fields_in (spread 8 c.args.block.now) = c.of-fields.ensures ∙ ap fields_in c.spread-bytes.ensures in
+    let fields : f ≡ fields_in (spread 8 c.args.block.now) = c.of-fields.ensures ∙ ap fields_in c.spread_bytes.ensures in
     let six : f.total - 2 - 4 ≡ f.total - 6 = omega arith in
     let found =
     ap (λ n. Some (content_of (record { toggle = f.toggle; last = f.last; id = f.id }) (take n (drop 4 block)))) six ∙
     (ap (λ g. Some (stated g block)) fields ∙ sym (good_some block (or_from _ _ right good))) in
-    record { value = found; exactly = reads_from block _ (below_from 256 block (λ i _. (c.type-inv.block i).fits)) right found }
+    record { value = found; exactly = reads_from block _ (below_from 256 block (λ i _. (c.type_inv.block i).fits)) right found }

@@ -15,16 +15,16 @@ returns c =
     let content = content_of c.args.header bytes in
     let end = 32 + 8 * length bytes in
     let size : length (covered_bits content) ≡ 32 + 8 * length bytes = simp (length-append, length-header_bits, length-spread) (omega arith) in
-    let first = put_more [] entry entry c.write-header.new.bits (header_bits content) 0 32 32 refl refl refl c.write-header.ensures in
+    let first = put_more [] entry entry c.write_header.new.bits (header_bits content) 0 32 32 refl refl refl c.write_header.ensures in
     let second =
-    put_more (header_bits content) entry _ c.spread-bytes.new.bits (spread 8 bytes) 32 (end - 32) end (length-header_bits content) (omega arith) first
-    c.spread-bytes.ensures in
+    put_more (header_bits content) entry _ c.spread_bytes.new.bits (spread 8 bytes) 32 (end - 32) end (length-header_bits content) (omega arith) first
+    c.spread_bytes.ensures in
     let check : c.crc16-check.result ≡ crc16_of (covered_bits content) =
     c.crc16-check.ensures.value ∙
     ap crc16_of (ap (λ l. take (end - 0) l) second ∙ take_at (covered_bits content) (drop end entry) (end - 0) (omega (arith, size))) in
     let third =
-    field_more (covered_bits content) entry _ c.write-number.new.bits end (end + 16 - end) (crc16_of (covered_bits content)) c.from.result size
-    (omega arith) second c.write-number.ensures (c.from.ensures ∙ check) in
+    field_more (covered_bits content) entry _ c.write_number.new.bits end (end + 16 - end) (crc16_of (covered_bits content)) c.from.result size
+    (omega arith) second c.write_number.ensures (c.from.ensures ∙ check) in
     let sixteen : end + 16 - end ≡ 16 = omega arith in
     third ∙
     (ap (λ k. covered_bits content ++ bits_of k (crc16_of (covered_bits content)) ++ drop (end + k) entry) sixteen ∙

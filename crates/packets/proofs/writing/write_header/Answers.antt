@@ -13,12 +13,12 @@ returns c =
     let n = length c.args.«data».now + 6 in
     let h = c.args.header in
     let flags = h.toggle ∷ eqb h.id 0 ∷ h.last ∷ [] in
-    let first = field_more [] entry entry c.write-number.new.bits 0 12 n n refl (omega arith) refl c.write-number.ensures refl in
-    let second = put_more (bits_of 12 n) entry _ c.copy-from-slice.new.self flags 12 3 15 refl refl first c.copy-from-slice.ensures.after in
+    let first = field_more [] entry entry c.write_number.new.bits 0 12 n n refl (omega arith) refl c.write_number.ensures refl in
+    let second = put_more (bits_of 12 n) entry _ c.copy_from_slice.new.self flags 12 3 15 refl refl first c.copy_from_slice.ensures.after in
     let third =
-    field_more (bits_of 12 n ++ flags) entry _ c.write-number-2.new.bits 15 10 h.id c.from.result refl (omega arith) second
-    c.write-number-2.ensures c.from.ensures in
+    field_more (bits_of 12 n ++ flags) entry _ c.write_number-2.new.bits 15 10 h.id c.from.result refl (omega arith) second
+    c.write_number-2.ensures c.from.ensures in
     let fourth =
-    field_more (bits_of 12 n ++ flags ++ bits_of 10 h.id) entry _ c.write-number-3.new.bits 25 7 0 0 refl (omega arith) third
-    c.write-number-3.ensures refl in
+    field_more (bits_of 12 n ++ flags ++ bits_of 10 h.id) entry _ c.write_number-3.new.bits 25 7 0 0 refl (omega arith) third
+    c.write_number-3.ensures refl in
     fourth ∙ ap (λ l. bits_of 12 n ++ flags ++ bits_of 10 h.id ++ bits_of 7 0 ++ l) (drop_all 32 entry (omega arith))

@@ -15,14 +15,14 @@ returns c =
     let bytes = c.args.«data».now in
     let content = content_of c.args.header bytes in
     let total = length bytes + 6 in
-    let fits = fits_from (length block) content (sym c.if-not-has-room.ensures) (below_from 256 bytes (λ i _. (c.type-inv.«data» i).fits)) in
+    let fits = fits_from (length block) content (sym c.if-not-has_room.ensures) (below_from 256 bytes (λ i _. (c.type_inv.«data» i).fits)) in
     let least = fits.least in
     let within = fits.within in
     let front : length (take (total - 0) block) ≡ total = simp length-take (omega arith) in
-    let packet : c.cut-bytes.new.bytes ≡ packet_bytes content =
-    c.cut-bytes.ensures ∙ (ap (λ n. cut 8 n c.write-bits.new.bits) front ∙ ap (λ l. cut 8 total l) c.write-bits.ensures) in
-    let first = put_more [] block block c.cut-bytes.new.bytes (packet_bytes content) 0 (total - 0) total refl (omega arith) refl packet in
-    let now = c.cut-bytes.new.bytes ++ post_of 0 (total - 0) block in
+    let packet : c.cut_bytes.new.bytes ≡ packet_bytes content =
+    c.cut_bytes.ensures ∙ (ap (λ n. cut 8 n c.write_bits.new.bits) front ∙ ap (λ l. cut 8 total l) c.write_bits.ensures) in
+    let first = put_more [] block block c.cut_bytes.new.bytes (packet_bytes content) 0 (total - 0) total refl (omega arith) refl packet in
+    let now = c.cut_bytes.new.bytes ++ post_of 0 (total - 0) block in
     let size : length now ≡ length block = ap length first ∙ simp (length-append, length_cut, length-drop) (omega arith) in
     let zeros : c.fill.new.self ≡ replicate (length block - total) 0 =
     c.fill.ensures.after (λ y e. e) ∙ ap (λ n. replicate n 0) (simp (length-take, length-drop) (omega (arith, size))) in

@@ -6,10 +6,10 @@ use Rattle.reed_solomon.specs.Powers.{times_power}
 use Rattle.reed_solomon.proofs.Reach.{Near, none_wrong, one_mended, none_reached, no_place_reached}
 use Rattle.reed_solomon.proofs.mend.mend.Goals as goal
 
-pub returns-then-not-steps-by : goal.returns-then-not-steps-by
-returns-then-not-steps-by c =
+pub returns-then-not-steps_by : goal.returns-then-not-steps_by
+returns-then-not-steps_by c =
     let first : value_at 1 c.args.given.now ≡ 0 = cc in
-    (refl, none_reached c.args.roots c.args.given.now c.requires.two c.requires.short c.requires.below (length c.args.message.now) c.requires.size first c.if-not-steps-by.ensures)
+    (refl, none_reached c.args.roots c.args.given.now c.requires.two c.requires.short c.requires.below (length c.args.message.now) c.requires.size first c.if-not-steps_by.ensures)
 
 pub returns-then-number-eq0 : goal.returns-then-number-eq0
 returns-then-number-eq0 c =
@@ -21,10 +21,10 @@ returns-then-number-eq0 c =
     subst (λ (m : List ℕ). Near c.args.roots k given m 0) (sym front)
     (none_wrong c.args.roots given c.requires.two c.requires.short c.requires.below k c.requires.size first c.if-not-steps_by.ensures)
 
-pub returns-in-default : goal.returns-in-default
-returns-in-default c =
+pub returns-in_default : goal.returns-in_default
+returns-in_default c =
     let first : 0 < value_at 1 c.args.given.now = omega arith in
-    (refl, no_place_reached c.args.roots c.args.given.now c.requires.two c.requires.short c.requires.below (length c.args.message.now) c.requires.size first c.in-default.ensures)
+    (refl, no_place_reached c.args.roots c.args.given.now c.requires.two c.requires.short c.requires.below (length c.args.message.now) c.requires.size first c.in_default.ensures)
 
 pub returns : goal.returns
 returns c =

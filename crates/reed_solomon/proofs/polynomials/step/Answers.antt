@@ -2,8 +2,8 @@ use Rattle.std.proofs.Common.{arith}
 use Rattle.reed_solomon.proofs.Steps.{step_by, step_is, length_step, get_or_step, symbols_step, written_more, written_next, written_all, written_symbols}
 use Rattle.reed_solomon.proofs.polynomials.step.Goals as goal
 
-pub symbol-at-requires-in-loop-i : goal.symbol-at-requires-in-loop-i
-symbol-at-requires-in-loop-i c =
+pub symbol_at-requires-in-loop-i : goal.symbol_at-requires-in-loop-i
+symbol_at-requires-in-loop-i c =
     let g = c.args.generator.now in
     let old = c.args.rest.now in
     let f = c.sum-factor.result.number in

@@ -6,8 +6,8 @@ use Rattle.staircase.specs.Staircase.{◌⊕◌, moved, places}
 use Rattle.staircase.specs.Places.{sum_none, places_is, row_sum_none, row_more}
 use Rattle.staircase.proofs.sums.add_row.Goals as goal
 
-pub slice-bounds-accumulate-end : goal.slice-bounds-accumulate-end
-slice-bounds-accumulate-end c =
+pub slice_bounds-accumulate-end : goal.slice_bounds-accumulate-end
+slice_bounds-accumulate-end c =
     let lift = length c.args.sums.now in
     let most = mul-le (c.loop-j.j + 1) lift (length c.args.exponents.now) lift (omega arith) (omega arith) in
     search rules

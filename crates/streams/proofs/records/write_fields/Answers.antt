@@ -13,10 +13,10 @@ returns c =
     let o = occupancy_number c.args.mis.occupancy in
     let t = tis_number c.args.mis.tis in
     let d = data_number c.args.mis.«data» in
-    let first = field_more [] entry entry c.write-number.new.bits 0 2 o c.from.result refl (omega arith) refl c.write-number.ensures (c.from.ensures ∙ c.number.ensures) in
-    let second = field_more (bits_of 2 o) entry _ c.write-number-2.new.bits 2 1 t c.from-2.result refl (omega arith) first c.write-number-2.ensures (c.from-2.ensures ∙ c.number-2.ensures) in
-    let third = field_more (bits_of 2 o ++ bits_of 1 t) entry _ c.write-number-3.new.bits 3 2 d c.from-3.result refl (omega arith) second c.write-number-3.ensures (c.from-3.ensures ∙ c.number-3.ensures) in
-    let fourth = field_more (bits_of 2 o ++ bits_of 1 t ++ bits_of 2 d) entry _ c.write-number-4.new.bits 5 1 0 0 refl (omega arith) third c.write-number-4.ensures refl in
+    let first = field_more [] entry entry c.write_number.new.bits 0 2 o c.from.result refl (omega arith) refl c.write_number.ensures (c.from.ensures ∙ c.number.ensures) in
+    let second = field_more (bits_of 2 o) entry _ c.write_number-2.new.bits 2 1 t c.from-2.result refl (omega arith) first c.write_number-2.ensures (c.from-2.ensures ∙ c.number-2.ensures) in
+    let third = field_more (bits_of 2 o ++ bits_of 1 t) entry _ c.write_number-3.new.bits 3 2 d c.from-3.result refl (omega arith) second c.write_number-3.ensures (c.from-3.ensures ∙ c.number-3.ensures) in
+    let fourth = field_more (bits_of 2 o ++ bits_of 1 t ++ bits_of 2 d) entry _ c.write_number-4.new.bits 5 1 0 0 refl (omega arith) third c.write_number-4.ensures refl in
     let none = drop_all 6 entry (omega arith) in
     let whole = append-nil (mis_fields c.args.mis) in
     cc

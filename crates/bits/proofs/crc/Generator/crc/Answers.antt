@@ -25,8 +25,8 @@ loop-bit-preserved c =
     let push = registered_push w c.args.self.polynomial (2 ^ w - 1) (take i bits) (get_or bits i false) in
     cc
 
-pub overflow-sub-result : goal.overflow-sub-result
-overflow-sub-result c =
+pub overflow_sub-result : goal.overflow_sub-result
+overflow_sub-result c =
     omega (
       arith,
       shifted_one c.args.self.width c.requires.degree,

@@ -4,13 +4,13 @@ use Rattle.lineup.specs.LineUps.{NoneAbove, NoneBelow, Passes1, Passes2, Passes3
 use Rattle.lineup.proofs.Views.{held_same, holds_same}
 use Rattle.lineup.proofs.line_up.LineUp.copy.Goals as goal
 
-pub invariant-of-result : goal.invariant-of-result
-invariant-of-result c =
+pub invariant_of-result : goal.invariant_of-result
+invariant_of-result c =
     let self = c.args.self.now in
-    let code = c.in-ok-code.code in
-    let plan = vec_items c.extend-from-slice.new.self in
-    let k = c.in-ok-code.ensures in
-    let written : vec_items c.extend-from-slice.new.self ≡ vec_items c.args.self.now.plan = search rules in
+    let code = c.in_ok-code.code in
+    let plan = vec_items c.extend_from_slice.new.self in
+    let k = c.in_ok-code.ensures in
+    let written : vec_items c.extend_from_slice.new.self ≡ vec_items c.args.self.now.plan = search rules in
     let same = held_same self.mode plan (vec_items self.plan) code self.code written k.0 k.1 k.2 k.3 in
     let view = held self.mode plan code in
     let other = held self.mode (vec_items self.plan) self.code in (

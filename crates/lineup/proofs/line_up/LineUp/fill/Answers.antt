@@ -10,26 +10,26 @@ pub fill-requires : goal.fill-requires
 fill-requires c =
     let a = c.args in
     let b = asked a.occupancy a.tis a.data a.rate a.plan.now a.lift a.rows a.columns a.exponents.now in
-    valid b c.in-ok-mode.ensures.0.0.0
+    valid b c.in_ok-mode.ensures.0.0.0
 
 -- the plan has room, so all of it is there, and the line-up holds what was asked
-pub invariant-of-self : goal.invariant-of-self
-invariant-of-self c =
+pub invariant_of-self : goal.invariant_of-self
+invariant_of-self c =
     let a = c.args in
     let b = asked a.occupancy a.tis a.data a.rate a.plan.now a.lift a.rows a.columns a.exponents.now in
-    let judged = c.in-ok-mode.ensures in
+    let judged = c.in_ok-mode.ensures in
     let p = judged.0 in
-    let mode = c.in-ok-mode.mode in
+    let mode = c.in_ok-mode.mode in
     let few : length a.plan.now ≤ 3435 = whole_le a.occupancy mode.occupancy a.plan.now judged.1.0 p.0.0.0.0.0.0.1 in
-    let ok : is_ok c.extend-from-slice.result ≡ true = c.extend-from-slice.ensures.succeeds (omega arith) in
+    let ok : is_ok c.extend_from_slice.result ≡ true = c.extend_from_slice.ensures.succeeds (omega arith) in
     let none = c.clear.ensures.items in
-    let all = c.extend-from-slice.ensures.items in
-    let written : vec_items c.extend-from-slice.new.self ≡ a.plan.now = rw (ok, none) at all in
+    let all = c.extend_from_slice.ensures.items in
+    let written : vec_items c.extend_from_slice.new.self ≡ a.plan.now = rw (ok, none) at all in
     let f = c.fill.ensures in
     let same =
-    held_is mode (vec_items c.extend-from-slice.new.self) c.fill.new.self a.occupancy a.tis a.data a.rate a.plan.now
+    held_is mode (vec_items c.extend_from_slice.new.self) c.fill.new.self a.occupancy a.tis a.data a.rate a.plan.now
     a.lift a.rows a.columns a.exponents.now judged.1 written f.lift f.rows f.columns f.exponents in
-    let view = held (Some mode) (vec_items c.extend-from-slice.new.self) c.fill.new.self in (
+    let view = held (Some mode) (vec_items c.extend_from_slice.new.self) c.fill.new.self in (
       holds view b Passes1 same p.0.0.0.0.0.0.0,
       (
         holds view b Passes2 same p.0.0.0.0.0.0.1,

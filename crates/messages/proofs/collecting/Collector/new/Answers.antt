@@ -3,4 +3,4 @@ use Rattle.messages.proofs.Collectors.{new_is}
 use Rattle.messages.proofs.collecting.Collector.new.Goals as goal
 
 pub returns : goal.returns
-returns c = new_is c.args.piece-length c.max.result c.none-there.result _ (omega arith) c.none-there.ensures c.in-ok-zeros.ensures.0
+returns c = new_is c.args.piece_length c.max.result c.none_there.result _ (omega arith) c.none_there.ensures c.in_ok-zeros.ensures.0

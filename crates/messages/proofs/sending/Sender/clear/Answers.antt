@@ -2,7 +2,7 @@ use Rattle.std.proofs.Common.{rules}
 use Rattle.messages.proofs.Cutting.{no_pieces}
 use Rattle.messages.proofs.sending.Sender.clear.Goals as goal
 
-pub invariant-of-self : goal.invariant-of-self
-invariant-of-self c =
+pub invariant_of-self : goal.invariant_of-self
+invariant_of-self c =
     let few = no_pieces _ c.args.self.now.least _ c.clear.ensures.items in
     (search rules, (search rules, (search rules, (search rules, (few, (search rules, tt))))))

@@ -5,7 +5,7 @@ use Rattle.messages.proofs.sending.calls.write_piece.Goals as goal
 
 pub returns : goal.returns
 returns c =
-    let d = c.args.piece-length in
+    let d = c.args.piece_length in
     let i = c.args.id in
     let m = c.args.message.now in
     let n = c.min-length.result in

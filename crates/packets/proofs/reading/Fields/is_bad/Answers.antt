@@ -2,10 +2,10 @@ use Rattle.std.proofs.Common.{rules}
 use Rattle.packets.specs.Packets.{bad_block}
 use Rattle.packets.proofs.reading.Fields.is_bad.Goals as goal
 
-pub returns-then-wrong-first : goal.returns-then-wrong-first
+pub returns-then-wrong_first : goal.returns-then-wrong_first
 unfolding bad_block
-returns-then-wrong-first c = search rules
+returns-then-wrong_first c = search rules
 
-pub returns-else-wrong-first : goal.returns-else-wrong-first
+pub returns-else-wrong_first : goal.returns-else-wrong_first
 unfolding bad_block
-returns-else-wrong-first c = search rules
+returns-else-wrong_first c = search rules

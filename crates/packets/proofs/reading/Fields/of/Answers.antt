@@ -3,8 +3,8 @@ use Rattle.packets.specs.Packets.{fields_in}
 use Rattle.packets.proofs.BitLaws.{field_below}
 use Rattle.packets.proofs.reading.Fields.of.Goals as goal
 
-pub overflow-cast-result-2 : goal.overflow-cast-result-2
-overflow-cast-result-2 c = omega (arith, c.read-number-2.ensures, field_below 15 10 c.args.bits.now)
+pub overflow_cast-result-2 : goal.overflow_cast-result-2
+overflow_cast-result-2 c = omega (arith, c.read_number-2.ensures, field_below 15 10 c.args.bits.now)
 
 pub returns : goal.returns
 unfolding fields_in

@@ -4,8 +4,8 @@ use Rattle.std.proofs.lemmas.Nat.{mul-le}
 use Rattle.staircase.specs.Groups.{group, length-group, groups_put, stair_none, stair_more, sums_more}
 use Rattle.staircase.proofs.code.Staircase.write_checks.Goals as goal
 
-pub slice-bounds-copy-from-slice-end : goal.slice-bounds-copy-from-slice-end
-slice-bounds-copy-from-slice-end c =
+pub slice_bounds-copy_from_slice-end : goal.slice_bounds-copy_from_slice-end
+slice_bounds-copy_from_slice-end c =
     let most = mul-le (c.loop-i.i + 1) c.args.self.now.lift c.args.self.now.rows c.args.self.now.lift (omega arith) (omega arith) in
     search rules
 
@@ -22,10 +22,10 @@ loop-i-preserved c =
     let es = vec_items code.exponents in
     let message = c.args.message.now in
     let one : (i + 1) * code.lift - i * code.lift ≡ code.lift = omega (arith, add-mul i 1 code.lift) in
-    let sums = sums_more code.lift code.columns es message c.row.result.now c.loop-i.sums c.add-row.new.sums i c.loop-i.invariant.0 c.row.ensures.row c.add-row.ensures in (
+    let sums = sums_more code.lift code.columns es message c.row.result.now c.loop-i.sums c.add_row.new.sums i c.loop-i.invariant.0 c.row.ensures.row c.add_row.ensures in (
       sums ∙ sym (stair_more code.lift code.columns es message i),
       groups_put code.lift (group code.lift code.columns es message) (length-group code.lift code.columns es message)
-          c.args.checks.now c.loop-i.checks c.copy-from-slice.new.self i _ one c.loop-i.invariant.1 (c.copy-from-slice.ensures.after ∙ sums),
+          c.args.checks.now c.loop-i.checks c.copy_from_slice.new.self i _ one c.loop-i.invariant.1 (c.copy_from_slice.ensures.after ∙ sums),
     )
 
 pub returns : goal.returns

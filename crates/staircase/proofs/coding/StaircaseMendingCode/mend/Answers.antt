@@ -3,19 +3,19 @@ use Rattle.std.proofs.lemmas.Bool.{both_ways}
 use Rattle.staircase.proofs.Mends.{within_from_word, word_from_within}
 use Rattle.staircase.proofs.coding.StaircaseMendingCode.mend.Goals as goal
 
-pub returns-then-not-checks-hold : goal.returns-then-not-checks-hold
-returns-then-not-checks-hold c =
+pub returns-then-not-checks_hold : goal.returns-then-not-checks_hold
+returns-then-not-checks_hold c =
     let code = c.args.self.now in (
       refl,
       λ m e w.
-          let hold = c.checks-hold.ensures.words.1 (word_from_within code.lift code.rows code.columns (vec_items code.exponents) c.args.given.now c.requires.size m e w) in
-          both_ways c.checks-hold.result c.if-not-checks-hold.true (c.checks-hold.ensures.checks.1 hold),
+          let hold = c.checks_hold.ensures.words.1 (word_from_within code.lift code.rows code.columns (vec_items code.exponents) c.args.given.now c.requires.size m e w) in
+          both_ways c.checks_hold.result c.if-not-checks_hold.true (c.checks_hold.ensures.checks.1 hold),
     )
 
 pub returns : goal.returns
 returns c =
     let code = c.args.self.now in
-    let word = c.checks-hold.ensures.words.0 (c.checks-hold.ensures.checks.0 c.if-not-checks-hold.false) in
-    let whole : c.message-length.result - 0 ≡ code.columns * code.lift = omega arith in
-    let front : c.copy-from-slice.new.self ≡ take (code.columns * code.lift) c.args.given.now = rw whole at c.copy-from-slice.ensures.after in
-    within_from_word code.lift code.rows code.columns (vec_items code.exponents) c.args.given.now c.requires.size c.copy-from-slice.new.self front word
+    let word = c.checks_hold.ensures.words.0 (c.checks_hold.ensures.checks.0 c.if-not-checks_hold.false) in
+    let whole : c.message_length.result - 0 ≡ code.columns * code.lift = omega arith in
+    let front : c.copy_from_slice.new.self ≡ take (code.columns * code.lift) c.args.given.now = rw whole at c.copy_from_slice.ensures.after in
+    within_from_word code.lift code.rows code.columns (vec_items code.exponents) c.args.given.now c.requires.size c.copy_from_slice.new.self front word

@@ -6,6 +6,6 @@ pub returns : goal.returns
 returns c =
     let code = c.args.self.now in
     let message = c.args.message.now in
-    rw c.write-checks.ensures (
-    two_parts message c.args.out.now _ c.copy-from-slice.new.self c.copy-from-slice.ensures.after
+    rw c.write_checks.ensures (
+    two_parts message c.args.out.now _ c.copy_from_slice.new.self c.copy_from_slice.ensures.after
     (omega (arith, c.requires.size, c.requires.room, add-mul code.columns code.rows code.lift)))
