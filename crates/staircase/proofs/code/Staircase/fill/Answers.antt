@@ -13,4 +13,4 @@ written c =
     rw (ok, none) at all
 
 pub invariant_of-self : goal.invariant_of-self
-invariant_of-self c = (c.requires.0, (c.requires.1, (rw (written c) c.requires.2, (omega arith, tt))))
+invariant_of-self c = record { lifted = c.requires.0; shaped = c.requires.1; filled = rw (written c) c.requires.2; room = omega arith }
