@@ -9,10 +9,10 @@ pub false_since : (b : Bool) → (b ≡ true → ⊥) → b ≡ false
 false_since true h = absurd (h refl)
 false_since false h = refl
 
-pub all_true : (n : ℕ) (xs : List Bool) → ((i : ℕ) → i < n → get_or xs i false ≡ true) → all_true (take n xs) ≡ true
-all_true zero xs h = refl
-all_true (suc n) [] h = refl
-all_true (suc n) (x ∷ xs) h = and_from x (all_true (take n xs)) (h 0 (omega arith)) (all_true n xs (λ i l. h (suc i) (omega arith)))
+pub all_true_lem : (n : ℕ) (xs : List Bool) → ((i : ℕ) → i < n → get_or xs i false ≡ true) → all_true (take n xs) ≡ true
+all_true_lem zero xs h = refl
+all_true_lem (suc n) [] h = refl
+all_true_lem (suc n) (x ∷ xs) h = and_from x (all_true (take n xs)) (h 0 (omega arith)) (all_true_lem n xs (λ i l. h (suc i) (omega arith)))
 
 pub all_true_at : (n : ℕ) (xs : List Bool) (i : ℕ) → all_true (take n xs) ≡ true → n ≤ length xs → i < n → get_or xs i false ≡ true
 all_true_at zero xs i e h l = absurd (omega arith)

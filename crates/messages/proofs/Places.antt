@@ -9,7 +9,7 @@ use Rattle.packets.specs.Packets.{Content}
 use Rattle.messages.specs.Packets.{packet_of}
 use Rattle.messages.specs.CollectorCalls.{CollectorState, any_true, none_there, begun, behind, completes, last_with, misplaced, none_missing, placed, wrong_length, written}
 use Rattle.messages.proofs.Cutting.{row, starts_within, within_starts, length-piece}
-use Rattle.messages.proofs.Flags.{false_since, all_true, all_true_at, none_from, length-written, written_in, written_below, written-above}
+use Rattle.messages.proofs.Flags.{false_since, all_true_lem, all_true_at, none_from, length-written, written_in, written_below, written-above}
 use Rattle.messages.proofs.Sends.{Sendable}
 
 -- the last piece is known exactly if it was brought
@@ -181,7 +181,7 @@ module _ (o : CollectorState) (m : List ℕ) (toggle : Bool) (B B' : ℕ → Typ
   then_go : (last : Option ℕ) (total : ℕ) → Ended o.piece_length m B' last total → ((i : ℕ) → i < piece_count o.piece_length (length m) → B' i) → none_missing (set o.there j true) last ≡ true
   then_go None total e all =
       absurd (e (piece_count o.piece_length (length m) - 1) (omega arith) (all (piece_count o.piece_length (length m) - 1) (omega arith)))
-  then_go (Some k) total e all = all_true (k + 1) (set o.there j true) (λ i l. is_after i (all i (omega (arith, e.0))))
+  then_go (Some k) total e all = all_true_lem (k + 1) (set o.there j true) (λ i l. is_after i (all i (omega (arith, e.0))))
 
   pub then_complete : ((i : ℕ) → i < piece_count o.piece_length (length m) → B' i) → completes o (piece_for o m toggle j) ≡ true
   then_complete = then_go last_after _ ended_after

@@ -24,7 +24,7 @@ pub struct Reading<T> {
 pub fn carry<Q: Constellation>(points: &Q, order: Order, word: &[u8], cells: &mut [Cell])
     requires short { length word.now ≤ 5120 }
     requires room { 7 * length word.now ≤ cell_bits order * length cells.old }
-    ensures { cells.new ≡ cells_of (point points.now order) (cell_bits order) (length cells.old) word.now }
+    ensures { cells.new ≡ cells_of (Q.point points.now order) (cell_bits order) (length cells.old) word.now }
 {
     let mut store = [false; MOST_BITS];
     let bits = &mut store[0..7 * word.len()];
@@ -36,7 +36,7 @@ pub fn carry<Q: Constellation>(points: &Q, order: Order, word: &[u8], cells: &mu
 pub fn decide_word<Q: Constellation>(points: &Q, order: Order, cells: &[Cell], word: &mut [u8])
     requires short { length word.old ≤ 5120 }
     requires room { 7 * length word.old ≤ cell_bits order * length cells.now }
-    ensures { word.new ≡ symbols_of (decided points.now order) (length word.old) cells.now }
+    ensures { word.new ≡ symbols_of (Q.decided points.now order) (length word.old) cells.now }
 {
     let mut store = [false; MOST_BITS];
     let bits = &mut store[0..7 * word.len()];

@@ -8,7 +8,7 @@ pub returns-in_err-from_number-4 : goal.returns-in_err-from_number-4
 returns-in_err-from_number-4 c =
     let n = c.args.rate in
     let out = known_none rate_number 2 n (rate_of n) c.from_number-4.result (rate_known n) c.from_number-4.ensures c.in_err-from_number-4.was in
-    rw c.from-residual-in_err-from_number-4.ensures (unknown_rate c.args.occupancy c.args.tis c.args.data n out)
+    rw c.from_residual-in_err-from_number-4.ensures (unknown_rate c.args.occupancy c.args.tis c.args.data n out)
 
 pub returns : goal.returns
 returns c =

@@ -15,7 +15,7 @@ mend-requires g c =
 
 pub returns-in_err-mended : goal.returns-in_err-mended
 returns-in_err-mended g c =
-    let p = err_from_is_err_and c.from-residual.result c.from-residual.ensures.1 in
+    let p = err_from_is_err_and c.from_residual.result c.from_residual.ensures.1 in
     let size : length c.decide_word.new.word ≡ c.word_length.result = search rules in
     let same = given_symbols _ _ _ c.decide_word.new.word c.args.cells.now c.decide_word.ensures (size ∙ c.word_length.ensures) in
     let none = c.in_err-mended.ensures in

@@ -47,15 +47,15 @@ module _ (g : given.Over) (code : g.row.C.Denot) (points : g.row.Q.Denot) (cells
 
 pub returns-in_err-mended : goal.returns-in_err-mended
 returns-in_err-mended g c =
-    let p = err_from_is_err_and c.from-residual.result c.from-residual.ensures.1 in
+    let p = err_from_is_err_and c.from_residual.result c.from_residual.ensures.1 in
     let none = sizes g c.args.code.now c.args.points.now c.args.cells.now _ _ _ _ (Err c.in_err-mended.field-0.0) c.in_err-mended.ensures in
-    full g c.args.code.now c.args.points.now c.args.cells.now c.from-residual.result (rw (p.1, p.2) none.2)
+    full g c.args.code.now c.args.points.now c.args.cells.now c.from_residual.result (rw (p.1, p.2) none.2)
 
 pub returns-in_err-stated : goal.returns-in_err-stated
 returns-in_err-stated g c =
-    let p = err_from_is_err_and c.from-residual-in_err-stated.result c.from-residual-in_err-stated.ensures.1 in
+    let p = err_from_is_err_and c.from_residual-in_err-stated.result c.from_residual-in_err-stated.ensures.1 in
     let got = sizes g c.args.code.now c.args.points.now c.args.cells.now [] c.mend_record.new.message [] c.mend_record.new.bits (Ok c.in_ok-mended.mended) c.in_ok-mended.ensures in
-    full g c.args.code.now c.args.points.now c.args.cells.now c.from-residual-in_err-stated.result
+    full g c.args.code.now c.args.points.now c.args.cells.now c.from_residual-in_err-stated.result
     (rw (p.1, p.2) (c.mend_record.new.message, c.in_ok-mended.mended, got.0, ap mis_read (sym got.1) ∙ sym c.in_err-stated.ensures.value))
 
 pub returns : goal.returns

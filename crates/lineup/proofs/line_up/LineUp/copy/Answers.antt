@@ -13,31 +13,16 @@ invariant_of-result c =
     let written : vec_items c.extend_from_slice.new.self ≡ vec_items c.args.self.now.plan = search rules in
     let same = held_same self.mode plan (vec_items self.plan) code self.code written k.0 k.1 k.2 k.3 in
     let view = held self.mode plan code in
-    let other = held self.mode (vec_items self.plan) self.code in (
-      holds_same view other Passes1 same self.known,
-      (
-        holds_same view other Passes2 same self.whole,
-        (
-          holds_same view other Passes3 same self.bytes,
-          (
-            holds_same view other Passes4 same self.streams,
-            (
-              holds_same view other Passes5 same self.shape,
-              (
-                holds_same view other NoneBelow same self.below,
-                (
-                  holds_same view other NoneAbove same self.above,
-                  (
-                    holds_same view other Passes7 same self.block,
-                    (
-                      holds_same view other Passes8 same self.cells,
-                      (search rules, tt),
-                    ),
-                  ),
-                ),
-              ),
-            ),
-          ),
-        ),
-      ),
-    )
+    let other = held self.mode (vec_items self.plan) self.code in
+    record {
+      known = holds_same view other Passes1 same self.known;
+      whole = holds_same view other Passes2 same self.whole;
+      bytes = holds_same view other Passes3 same self.bytes;
+      streams = holds_same view other Passes4 same self.streams;
+      shape = holds_same view other Passes5 same self.shape;
+      below = holds_same view other NoneBelow same self.below;
+      above = holds_same view other NoneAbove same self.above;
+      block = holds_same view other Passes7 same self.block;
+      cells = holds_same view other Passes8 same self.cells;
+      room = search rules;
+    }

@@ -29,31 +29,16 @@ invariant_of-self c =
     let same =
     held_is mode (vec_items c.extend_from_slice.new.self) c.fill.new.self a.occupancy a.tis a.data a.rate a.plan.now
     a.lift a.rows a.columns a.exponents.now judged.1 written f.lift f.rows f.columns f.exponents in
-    let view = held (Some mode) (vec_items c.extend_from_slice.new.self) c.fill.new.self in (
-      holds view b Passes1 same p.0.0.0.0.0.0.0,
-      (
-        holds view b Passes2 same p.0.0.0.0.0.0.1,
-        (
-          holds view b Passes3 same p.0.0.0.0.0.1,
-          (
-            holds view b Passes4 same p.0.0.0.0.1,
-            (
-              holds view b Passes5 same p.0.0.0.1,
-              (
-                holds view b NoneBelow same (λ k h. (p.0.0.1 k h).0),
-                (
-                  holds view b NoneAbove same (λ k h. (p.0.0.1 k h).1),
-                  (
-                    holds view b Passes7 same p.0.1,
-                    (
-                      holds view b Passes8 same p.1,
-                      (omega arith, tt),
-                    ),
-                  ),
-                ),
-              ),
-            ),
-          ),
-        ),
-      ),
-    )
+    let view = held (Some mode) (vec_items c.extend_from_slice.new.self) c.fill.new.self in
+    record {
+      known = holds view b Passes1 same p.0.0.0.0.0.0.0;
+      whole = holds view b Passes2 same p.0.0.0.0.0.0.1;
+      bytes = holds view b Passes3 same p.0.0.0.0.0.1;
+      streams = holds view b Passes4 same p.0.0.0.0.1;
+      shape = holds view b Passes5 same p.0.0.0.1;
+      below = holds view b NoneBelow same (λ k h. (p.0.0.1 k h).0);
+      above = holds view b NoneAbove same (λ k h. (p.0.0.1 k h).1);
+      block = holds view b Passes7 same p.0.1;
+      cells = holds view b Passes8 same p.1;
+      room = omega arith;
+    }

@@ -6,4 +6,4 @@ pub invariant_of-result : goal.invariant_of-result
 invariant_of-result c =
     let some : 1 ≤ c.max.result = omega arith in
     let items = c.in_ok-with_capacity.ensures.items in
-    (search rules, (search rules, (search rules, (search rules, (no_pieces _ some _ items, (search rules, tt))))))
+    record { room = search rules; least = search rules; most = search rules; fits = search rules; few = no_pieces _ some _ items; sound = search rules }

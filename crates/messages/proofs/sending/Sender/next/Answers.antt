@@ -4,8 +4,8 @@ use Rattle.messages.specs.SenderCalls.{is_loaded, next_piece}
 use Rattle.messages.proofs.Cutting.{next_starts, next_reached}
 use Rattle.messages.proofs.sending.Sender.next.Goals as goal
 
-pub write-piece_length-requires : goal.write-piece_length-requires
-write-piece_length-requires c =
+pub write_piece-length-requires : goal.write_piece-length-requires
+write_piece-length-requires c =
     let s = c.args.self.now in
     let is : is_loaded s.progress ≡ true = search rules in
     let k : next_piece s.progress * s.piece_length ≤ length (vec_items s.message) = next_starts _ _ _ s.least is s.sound in
