@@ -1,5 +1,5 @@
 -- The register of a cyclic redundancy check is the remainder of a division.
-use Rattle.std.proofs.Common.{◌≡◌, ℕ, zero, suc, ◌+◌, ◌-◌, ◌*◌, ◌/◌, ◌%◌, ◌^◌, ◌<◌, ◌≤◌, Bool, true, false, List, [], ◌∷◌, ◌++◌, length, sym, refl, ap, ◌∙◌, add-zero, mod-lt, mod-eq_of_lt, mul_assoc, mul_comm, one-mul, zero-add, zero-mul, mul-one, arith, pow_pos}
+use Rattle.std.proofs.Common.{◌≡◌, ℕ, suc, ◌+◌, ◌-◌, ◌*◌, ◌/◌, ◌%◌, ◌^◌, ◌<◌, ◌≤◌, Bool, true, false, List, [], ◌∷◌, ◌++◌, length, sym, refl, ap, ◌∙◌, add-zero, mod-lt, mod-eq_of_lt, mul_assoc, mul_comm, one-mul, zero-add, zero-mul, mul-one, arith, pow_pos}
 use native.Mathlib.Nat.{pow-succ'}
 use lib.Bits.{bit_xor, xor_assoc, xor_block, xor_comm, xor_lt, xor_self, xor_shifted, xor_zero_r}
 use lib.Pow.{ones_lt, ones_sub-lt, split}

@@ -1,5 +1,5 @@
 -- At most one message is within reach of the symbols given. Assumes nothing.
-use Rattle.std.proofs.Common.{◌≡◌, ℕ, ◌+◌, ◌*◌, ◌<◌, ◌≤◌, List, length, sym, ap, ◌∙◌, arith}
+use Rattle.std.proofs.Common.{◌≡◌, ℕ, ◌*◌, ◌<◌, List, length, sym, ◌∙◌, arith}
 use Rattle.codes.specs.Symbols.{differing, Below128}
 use Rattle.codes.specs.Mending.{Within}
 use Rattle.codes.proofs.Differing.{differing_sym, differing_between}

@@ -1,5 +1,5 @@
 -- Symbols by their numbers, and the places in which two lists of symbols differ.
-use Rattle.std.specs.Prelude.{ℕ, suc, ◌+◌, ◌<◌, Bool, true, false, cond, List, [], ◌∷◌, length, ◌==◌}
+use Rattle.std.specs.Prelude.{ℕ, suc, ◌+◌, ◌<◌, Bool, cond, List, [], ◌∷◌, length, ◌==◌}
 
 -- the number of a bit
 abbrev pub bit_number : Bool → ℕ

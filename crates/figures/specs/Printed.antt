@@ -1,5 +1,5 @@
 -- The printed figures, as facts about the definitions that the contracts use.
-use Rattle.std.specs.Prelude.{◌≡◌, ℕ, Bool, true, false, List, [], ◌∷◌, take, replicate, pos, negsuc}
+use Rattle.std.specs.Prelude.{◌≡◌, ℕ, true, false, List, [], ◌∷◌, take, replicate, pos, negsuc}
 use Rattle.cells.specs.Qam.{decided_number, qam_point}
 use Rattle.cells.specs.declared.cell.Cell.{Cell}
 use Rattle.cells.specs.declared.cell.Order.TheVariants.{Four}

@@ -1,5 +1,5 @@
 -- What a code's shape says of its numbers.
-use Rattle.std.proofs.Common.{◌≡◌, ℕ, ◌*◌, ◌≤◌, Bool, true, false, cond, ◌&&◌, ◌||◌, eqb, leb, length, sym, ◌∙◌}
+use Rattle.std.proofs.Common.{◌≡◌, ℕ, ◌*◌, Bool, true, ◌&&◌, ◌||◌, eqb, leb, length, sym, ◌∙◌}
 use Rattle.std.proofs.lemmas.Bool.{and_parts, cond_both, eqb-true, leb-true, or_left, or_right}
 use Rattle.staircase.specs.Staircase.{Lifted, Shaped, Valid}
 use Rattle.lineup.specs.LineUps.{Asked, Pass6, code_shaped, columns_for}

@@ -1,5 +1,5 @@
 -- The collector's state, put together from its parts.
-use Rattle.std.proofs.Common.{◌≡◌, ℕ, ◌+◌, ◌*◌, Bool, true, false, cond, List, length, set, replicate, None, Option, sym, refl, ap, ◌∙◌}
+use Rattle.std.proofs.Common.{◌≡◌, ℕ, ◌+◌, ◌*◌, Bool, true, false, cond, List, length, set, replicate, None, Option, ap, ◌∙◌}
 use Rattle.messages.specs.declared.states.Phase.TheVariants.{Empty, Collecting, Complete as IsComplete}
 use Rattle.messages.specs.Pieces.{piece_length_of}
 use Rattle.packets.specs.Packets.{Content}

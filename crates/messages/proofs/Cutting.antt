@@ -1,5 +1,5 @@
 -- Pieces: how many a message makes, where they begin and how long they are.
-use Rattle.std.proofs.Common.{◌≡◌, ℕ, ◌+◌, ◌-◌, ◌*◌, ◌/◌, ◌<◌, ◌≤◌, min, true, List, [], length, take, drop, sym, ap, ◌∙◌, inl, inr, ⊎_elim, add-mul, one-mul, le-div_iff_mul-le, arith}
+use Rattle.std.proofs.Common.{◌≡◌, ℕ, ◌+◌, ◌-◌, ◌*◌, ◌<◌, ◌≤◌, min, true, List, [], length, take, drop, sym, ap, ◌∙◌, ⊎_elim, add-mul, one-mul, le-div_iff_mul-le, arith}
 use native.Mathlib.Nat.{div-eq_of_lt}
 use Rattle.std.proofs.lemmas.List.{length-take, length-drop, take_all}
 use Rattle.std.proofs.lemmas.Bool.{cases_lt}

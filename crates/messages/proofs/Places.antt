@@ -1,8 +1,7 @@
 -- What the collector holds of a message, and what a packet of an outstanding piece makes of it.
-use Rattle.std.proofs.Common.{◌≡◌, ℕ, ◌+◌, ◌-◌, ◌*◌, ◌<◌, ◌≤◌, min, Bool, true, false, cond, not, ◌&&◌, ◌||◌, eqb, ltb, leb, ◌≢◌, ◌⊎◌, List, [], ◌∷◌, length, get_or, take, drop, set, Some, None, Option, sym, refl, ap, ◌∙◌, subst, inl, inr, ⊎_elim, mul-le-mul_right, arith}
+use Rattle.std.proofs.Common.{◌≡◌, ℕ, ◌+◌, ◌-◌, ◌*◌, ◌<◌, ◌≤◌, min, Bool, true, false, cond, ◌&&◌, eqb, ◌≢◌, ◌⊎◌, List, length, get_or, drop, set, Some, None, Option, sym, refl, ap, ◌∙◌, subst, inl, inr, ⊎_elim, mul-le-mul_right, arith}
 use Rattle.std.proofs.lemmas.List.{get_or-take, get_or-drop, get_or-set_same, get_or-set_other, get_or-replicate, get_or_past, length-set, length-replicate}
 use Rattle.std.proofs.lemmas.Bool.{or_from, and_left, and_right, not_from_true, lt-leb, le-ltb, eq-eqb, ne_eqb, cases_eq, cases_lt, cases_order}
-use Rattle.messages.specs.declared.states.Phase.{Phase}
 use Rattle.messages.specs.declared.states.Phase.TheVariants.{Empty, Collecting, Complete as IsComplete}
 use Rattle.messages.specs.Pieces.{piece_count, piece}
 use Rattle.packets.specs.Packets.{Content}

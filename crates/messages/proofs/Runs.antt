@@ -1,5 +1,5 @@
 -- The promise: what is known of the two states after every history.
-use Rattle.std.proofs.Common.{◌≡◌, ℕ, ◌+◌, ◌<◌, ◌≤◌, true, ◌⊎◌, List, [], ◌∷◌, ◌++◌, length, take, drop, replicate, Ok, Err, sym, refl, ap, ◌∙◌, subst, inl, inr, ⊎_elim, arith}
+use Rattle.std.proofs.Common.{◌≡◌, ℕ, ◌≤◌, List, [], ◌∷◌, length, take, drop, sym, refl, ap, ◌∙◌, subst, inl, inr, ⊎_elim, arith}
 use Rattle.std.proofs.lemmas.List.{take_at, length-replicate}
 use Rattle.packets.specs.declared.parts.Header.{Header}
 use Rattle.messages.specs.declared.states.Phase.TheVariants.{Empty}
@@ -9,7 +9,7 @@ use Rattle.messages.specs.SenderCalls.{SenderState, Carries, new_sender, next_pa
 use Rattle.messages.specs.CollectorCalls.{CollectorState, new_collector}
 use Rattle.messages.specs.Pieces.{piece_length_of}
 use Rattle.messages.specs.Histories.{Sent, Took, History, In, Due, Run, start, load, load_refused, next, next_refused, clear, clear_refused, take_sent, take_refused, fetch}
-use Rattle.messages.specs.Promise.{Promise, SendsPieces, TellsComplete, GivesBack}
+use Rattle.messages.specs.Promise.{Promise}
 use Rattle.messages.proofs.Sends.{Chain}
 use Rattle.messages.proofs.SenderRuns.{SenderOk, start_ok, load_ok, next_ok, clear_ok, same_ok}
 use Rattle.messages.proofs.Takes.{CollectorOk, Meets, any_found, taken_ok, refused_same, gives_back}

@@ -1,5 +1,5 @@
 -- The sender along a history: each call keeps what is known of its state and of what was sent.
-use Rattle.std.proofs.Common.{◌≡◌, ℕ, ◌+◌, ◌%◌, ◌<◌, ◌≤◌, Bool, true, false, cond, not, eqb, ltb, ◌≢◌, List, [], ◌∷◌, length, Some, None, Ok, Option, sym, refl, ap, ◌∙◌, subst, inl, inr, arith}
+use Rattle.std.proofs.Common.{◌≡◌, ℕ, ◌+◌, ◌%◌, ◌<◌, ◌≤◌, Bool, true, false, cond, not, eqb, ltb, ◌≢◌, List, [], ◌∷◌, length, Some, None, Ok, sym, refl, ap, ◌∙◌, subst, inl, inr, arith}
 use native.Mathlib.Nat.{mod-add-mod, zero-mod}
 use Rattle.std.proofs.lemmas.Bool.{eqb-false, ltb-false}
 use Rattle.refusals.specs.declared.Refusal.{Refusal}
@@ -9,7 +9,7 @@ use Rattle.messages.specs.declared.states.Progress.TheVariants.{Idle, Waiting, S
 use Rattle.messages.specs.Pieces.{piece_count}
 use Rattle.packets.specs.Packets.{Content}
 use Rattle.messages.specs.Packets.{packet_of}
-use Rattle.messages.specs.SenderCalls.{SenderState, new_sender, Loading, load_refusal, loaded, is_loaded, next_packet, advanced, cleared}
+use Rattle.messages.specs.SenderCalls.{SenderState, Loading, load_refusal, is_loaded, next_packet, advanced, cleared}
 use Rattle.messages.specs.Histories.{Sent, In}
 use Rattle.messages.proofs.Sends.{Sendable, Proper, Chain, Newest, chain_first, newest_first, chain_more, newest_more}
 

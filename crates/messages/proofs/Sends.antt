@@ -1,14 +1,8 @@
 -- The sender's side of a history: what the sent packets are, and how their toggles lie.
-use Rattle.std.proofs.Common.{◌≡◌, ℕ, ◌+◌, ◌%◌, ◌<◌, ◌≤◌, Bool, true, false, cond, not, ◌⊎◌, List, [], ◌∷◌, length, Some, None, Ok, Option, sym, refl, ap, ◌∙◌, subst, inl, inr, arith}
-use native.Mathlib.Nat.{mod-add-mod, zero-mod}
-use Rattle.std.proofs.lemmas.Bool.{eqb-false, ltb-false, cases_order}
-use Rattle.refusals.specs.declared.Refusal.{Refusal}
-use Rattle.messages.specs.declared.states.Progress.{Progress}
-use Rattle.messages.specs.declared.states.Progress.TheVariants.{Idle, Waiting, Sending}
+use Rattle.std.proofs.Common.{◌≡◌, ℕ, ◌<◌, ◌≤◌, Bool, not, List, [], ◌∷◌, length, sym, refl, ap, ◌∙◌, subst, inl, inr, arith}
+use Rattle.std.proofs.lemmas.Bool.{cases_order}
 use Rattle.messages.specs.Pieces.{piece_count}
-use Rattle.packets.specs.Packets.{Content}
 use Rattle.messages.specs.Packets.{packet_of}
-use Rattle.messages.specs.SenderCalls.{SenderState, Loading, load_refusal, loaded, is_loaded, next_piece, next_toggle, next_packet, advanced, cleared}
 use Rattle.messages.specs.Histories.{Sent, In}
 use Rattle.messages.specs.Promise.{brings}
 

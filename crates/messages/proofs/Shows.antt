@@ -1,5 +1,5 @@
 -- A history that is reported complete: a message in two pieces is loaded, sent and taken.
-use Rattle.std.proofs.Common.{◌≡◌, ℕ, ◌+◌, ◌-◌, ◌*◌, ◌/◌, ◌%◌, ◌<◌, ◌≤◌, Bool, true, false, cond, eqb, ltb, ◌⊎◌, List, [], ◌∷◌, ◌++◌, length, get_or, take, drop, replicate, Some, None, Ok, Err, Option, Result, sym, refl, ap, ◌∙◌, subst, inl, inr, ⊎_elim, arith}
+use Rattle.std.proofs.Common.{◌≡◌, ℕ, ◌+◌, ◌%◌, ◌<◌, Bool, true, false, cond, eqb, ltb, List, [], ◌∷◌, ◌++◌, length, get_or, take, drop, replicate, Some, None, Ok, Err, Result, sym, refl, ap, ◌∙◌, subst, inl, inr, ⊎_elim, arith}
 use native.Mathlib.Nat.{div-eq_of_lt-le}
 use Rattle.std.proofs.lemmas.List.{length-replicate}
 use Rattle.std.proofs.lemmas.Bool.{le-ltb, ne_eqb, cases_eq}
@@ -11,7 +11,7 @@ use Rattle.messages.specs.declared.content.Placing.TheVariants.{Placed, Complete
 use Rattle.messages.specs.declared.states.Progress.TheVariants.{Idle}
 use Rattle.messages.specs.Pieces.{piece_length_of, piece_count}
 use Rattle.packets.specs.Packets.{Content, content_of}
-use Rattle.messages.specs.SenderCalls.{SenderState, new_sender, load_refusal, loaded, is_loaded, next_packet, advanced, Nexting}
+use Rattle.messages.specs.SenderCalls.{SenderState, new_sender, load_refusal, loaded, next_packet, advanced}
 use Rattle.messages.specs.CollectorCalls.{CollectorState, Standing, new, more, had, again, begun, completes, misplaced, placed, same, standing, Placed-in, Taken-as, Taking}
 use Rattle.messages.specs.Histories.{Sent, Took, History, In, Before, Due, Run, start, load, next, take_sent, nothing, after_load, after_next, after_take}
 use Rattle.messages.specs.Promise.{brings, Brought, LastOutstanding, Promise, Shown}

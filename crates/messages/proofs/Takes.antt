@@ -1,5 +1,5 @@
 -- The collector along a history: what a packet that may be taken is answered, and what fetch gives.
-use Rattle.std.proofs.Common.{◌≡◌, ℕ, ◌+◌, ◌-◌, ◌*◌, ◌/◌, ◌%◌, ◌<◌, ◌≤◌, Bool, true, false, cond, not, ltb, ◌⊎◌, List, [], ◌∷◌, ◌++◌, length, get_or, take, drop, is_ok, Some, None, Ok, Err, Option, Result, sym, refl, ap, ◌∙◌, subst, inl, inr, ⊎_elim, mod-lt, div-add-mod', arith}
+use Rattle.std.proofs.Common.{◌≡◌, ℕ, ◌-◌, ◌/◌, ◌%◌, ◌<◌, ◌≤◌, Bool, true, false, cond, not, ltb, ◌⊎◌, List, [], ◌∷◌, ◌++◌, length, get_or, take, drop, is_ok, Some, None, Ok, Err, Option, Result, sym, refl, ap, ◌∙◌, subst, inl, inr, ⊎_elim, mod-lt, div-add-mod', arith}
 use Rattle.std.proofs.lemmas.List.{ext_get_or, get_or-take, length-take-le}
 use Rattle.std.proofs.lemmas.Bool.{le-ltb}
 use Rattle.refusals.specs.declared.Refusal.{Refusal}
@@ -12,7 +12,7 @@ use Rattle.messages.specs.Pieces.{piece_count}
 use Rattle.packets.specs.Packets.{Content}
 use Rattle.messages.specs.CollectorCalls.{CollectorState, Standing, new, more, had, again, begun, completes, fetch_refusal, same, standing, Placed-in, Placing-in, Taken-as, Taking, Fetching}
 use Rattle.messages.specs.Histories.{Sent, Took, Any, In}
-use Rattle.messages.specs.Promise.{brings, Brought, LastOutstanding, StandsComplete, Told}
+use Rattle.messages.specs.Promise.{brings, Brought, StandsComplete, Told}
 use Rattle.messages.proofs.Cutting.{within_starts}
 use Rattle.messages.proofs.Sends.{Proper}
 use Rattle.messages.proofs.Places.{Ended, Holds, holds_map, holds_begun, holds_placed, not_misplaced, complete_then, then_complete, piece_for}

@@ -1,9 +1,8 @@
 -- Histories of one sender and one collector: what was loaded, sent and taken, whatever calls were made in whatever order.
-use Rattle.std.specs.Prelude.{◌≡◌, ℕ, ◌+◌, ◌%◌, ◌<◌, ◌⊎◌, List, [], ◌∷◌, length, take, Ok, Err, Result}
+use Rattle.std.specs.Prelude.{◌≡◌, ℕ, ◌+◌, ◌<◌, ◌⊎◌, List, [], ◌∷◌, take, Ok, Err, Result}
 use Rattle.refusals.specs.declared.Refusal.{Refusal}
 use Rattle.packets.specs.declared.parts.Header.{Header}
 use Rattle.messages.specs.declared.content.Placing.{Placing}
-use Rattle.messages.specs.Pieces.{piece_count}
 use Rattle.packets.specs.Packets.{Content, content_of}
 use Rattle.messages.specs.SenderCalls.{SenderState, Loading, Nexting, Clearing}
 use Rattle.messages.specs.CollectorCalls.{CollectorState, Taking, Fetching}

@@ -1,12 +1,12 @@
 -- A record, its message, a word and its cells, and back. Assumes nothing.
-use Rattle.std.proofs.Common.{◌≡◌, ℕ, zero, suc, ◌+◌, ◌-◌, ◌*◌, ◌≤◌, min, Bool, List, [], ◌∷◌, length, take, drop, sym, refl, ap, ◌∙◌, suc-mul, arith}
+use Rattle.std.proofs.Common.{◌≡◌, ℕ, zero, suc, ◌+◌, ◌-◌, ◌*◌, ◌≤◌, Bool, List, [], length, take, drop, sym, refl, ap, ◌∙◌, suc-mul, arith}
 use Rattle.std.proofs.lemmas.List.{append-nil, length-take, take_all, take-take, drop-take}
 use Rattle.codes.specs.Symbols.{Below128}
 use Rattle.cells.specs.Cells.{Steady}
 use Rattle.cells.specs.Mapping.{Moved, decided_bits}
 use Rattle.cells.specs.declared.cell.Cell.{Cell}
 use Rattle.cells.proofs.Streams.{steady_stream}
-use Rattle.bits.specs.Bits.{cut, spread, number_of}
+use Rattle.bits.specs.Bits.{cut, spread}
 use Rattle.bits.specs.Scrambling.{scrambled}
 use Rattle.bits.proofs.Bits.{length-spread, spread_cut, cut-spread_128}
 use Rattle.bits.proofs.Sequences.{scrambled-scrambled, length-scrambled}

@@ -1,5 +1,5 @@
 -- What reading a stream answers is what was sent. Assumes nothing.
-use Rattle.std.proofs.Common.{◌≡◌, ℕ, ◌*◌, ◌<◌, ◌≤◌, Bool, List, length, Ok, Err, Result, sym, refl, ap, ◌∙◌, subst, arith}
+use Rattle.std.proofs.Common.{◌≡◌, ℕ, ◌*◌, ◌<◌, ◌≤◌, Bool, List, length, Ok, Err, Result, sym, ap, ◌∙◌, subst, arith}
 use Rattle.codes.specs.Symbols.{differing, Below128}
 use Rattle.codes.specs.Mending.{Within}
 use Rattle.codes.specs.declared.words.BeyondReach.{BeyondReach}

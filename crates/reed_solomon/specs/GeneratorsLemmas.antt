@@ -1,5 +1,5 @@
 -- The product of X + α, …, X + α^r has the roots α, …, α^r. Assumes nothing.
-use Rattle.std.specs.Prelude.{◌≡◌, ℕ, zero, suc, ◌+◌, ◌*◌, List, [], ◌∷◌, ◌++◌, map, length, bit_xor, refl}
+use Rattle.std.specs.Prelude.{◌≡◌, ℕ, zero, suc, ◌*◌, List, [], ◌∷◌, ◌++◌, map, length, bit_xor, refl}
 use Rattle.std.proofs.Common.{sym, ap, ◌∙◌, ⊎_elim, arith}
 use Rattle.std.specs.Int.Bits.{xor_zero_r, xor_self, xor_zero_l}
 use Rattle.std.proofs.lemmas.List.{length-append, length-map}

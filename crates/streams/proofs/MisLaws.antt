@@ -1,7 +1,5 @@
 -- A reader of MIS records answers a mode exactly where the bits are that mode's record.
-use Rattle.std.proofs.Common.{◌≡◌, ℕ, ◌+◌, ◌<◌, ◌≤◌, Bool, true, false, not, ◌||◌, eqb, List, [], ◌∷◌, ◌++◌, length, take, drop, replicate, Some, None, Ok, Err, Option, Result, sym, refl, ap, ◌∙◌, inl, inr, arith, lit<, length-drop, length-take}
-use borrow.Rule.Slice.PartMut.{put_mid}
-use Rattle.std.proofs.lemmas.List.{append-nil, drop_all, drop_at, length-append, take_all, take-append-drop, take_at}
+use Rattle.std.proofs.Common.{◌≡◌, ℕ, ◌<◌, Bool, true, false, not, ◌||◌, eqb, List, [], ◌∷◌, length, take, drop, Some, None, Ok, Err, Option, Result, sym, refl, ap, ◌∙◌, inl, inr, arith, lit<}
 use Rattle.std.proofs.lemmas.Bool.{cases_Bool, eq-eqb, eqb-false, eqb-true, not-false, or_parts}
 use Rattle.bits.specs.Bits.{bits_of}
 use Rattle.bits.specs.Crc.{crc8_of}
@@ -15,7 +13,7 @@ use Rattle.modes.specs.declared.mode.DataConstellation.{DataConstellation}
 use Rattle.modes.specs.declared.mode.DataConstellation.TheVariants.{Qam4 as DataQam4, Qam16 as DataQam16, Qam64 as DataQam64}
 use Rattle.modes.specs.declared.mode.Mis.{Mis}
 use Rattle.streams.specs.declared.records.BadRecord.{BadRecord}
-use Rattle.bits.proofs.Bits.{number_of-bits_of, number_of-below, field_back, field_more, take_plus}
+use Rattle.bits.proofs.Bits.{number_of-bits_of, field_back, take_plus}
 use Rattle.streams.proofs.RecordLaws.{check_right, field_below, part_length}
 use Rattle.bits.proofs.Remainders.{crc_below}
 

@@ -2,7 +2,7 @@
 use Rattle.std.proofs.Common.{◌≡◌, ℕ, ◌+◌, ◌^◌, ◌<◌, ◌≤◌, Bool, false, List, ◌++◌, length, take, drop, replicate, sym, ap, ◌∙◌, arith, pow_mono}
 use borrow.Rule.Slice.PartMut.{put_mid}
 use Rattle.std.proofs.lemmas.List.{append-nil, drop_all, drop_at, length-append, length-drop, length-take, take_all, take-append-drop, take_at}
-use Rattle.bits.specs.Bits.{bits_of, number_of}
+use Rattle.bits.specs.Bits.{bits_of}
 use Rattle.bits.specs.Crc.{crc8_of}
 use Rattle.streams.specs.Mis.{field_at}
 use Rattle.bits.proofs.Bits.{field_back, field_more, number_of-below}

@@ -1,9 +1,9 @@
 -- A reader of TIS records answers what a TIS states exactly where the bits are its record.
-use Rattle.std.proofs.Common.{◌≡◌, ℕ, ◌+◌, ◌<◌, ◌≤◌, Bool, true, false, not, ◌&&◌, ◌||◌, eqb, ltb, leb, List, ◌++◌, length, take, drop, is_err, Some, None, Ok, Err, Option, Result, sym, refl, ap, ◌∙◌, inl, inr, arith, lit<}
+use Rattle.std.proofs.Common.{◌≡◌, ℕ, ◌<◌, Bool, true, false, not, ◌&&◌, eqb, ltb, leb, List, length, take, drop, is_err, Some, None, Ok, Err, Option, Result, sym, refl, ap, ◌∙◌, inl, inr, arith, lit<}
 use native.Mathlib.Bridge.{le_prop}
 use Rattle.std.specs.Option.{ok_or}
 use Rattle.std.proofs.lemmas.Bool.{and_from, cases_Bool, eq-eqb, eqb-true, false≢true, le-leb, lt-ltb, ltb-true, not-false, or_parts}
-use Rattle.bits.specs.Bits.{bits_of, number_of}
+use Rattle.bits.specs.Bits.{bits_of}
 use Rattle.bits.specs.Crc.{crc8_of}
 use Rattle.streams.specs.Mis.{field_at}
 use Rattle.modes.specs.Station.{Allowed}

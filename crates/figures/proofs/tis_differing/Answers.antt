@@ -1,4 +1,4 @@
-use Rattle.std.proofs.Common.{◌≡◌, ℕ, ◌<◌, sym, ap, ◌∙◌, subst}
+use Rattle.std.proofs.Common.{◌≡◌, ℕ, ◌<◌, ap, ◌∙◌, subst}
 use Rattle.codes.specs.Symbols.{differing}
 use Rattle.figures.specs.Printed.{tis_word}
 use Rattle.modem.specs.TisStream.{tis_message}

@@ -1,4 +1,4 @@
-use Rattle.std.proofs.Common.{◌<◌, length, arith}
+use Rattle.std.proofs.Common.{arith}
 use Rattle.codes.proofs.Differing.{differing_more, differing_rest, apart-le}
 use Rattle.codes.proofs.symbols.count_differing.Goals as goal
 

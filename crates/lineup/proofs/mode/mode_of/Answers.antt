@@ -1,5 +1,3 @@
-use Rattle.std.proofs.Common.{ltb}
-use Rattle.std.proofs.lemmas.Bool.{and_from, and_right}
 use Rattle.modes.specs.Modes.{data_number, data_of, occupancy_number, occupancy_of, rate_number, rate_of, tis_number, tis_of}
 use Rattle.lineup.proofs.Numbers.{occupancy_known, tis_known, data_known, rate_known, known_some, known_none, known_all, unknown_rate}
 use Rattle.lineup.proofs.mode.mode_of.Goals as goal

@@ -1,4 +1,3 @@
-use Rattle.messages.specs.Views.{sender_state, collector_state}
 use Rattle.messages.proofs.Runs.{pair_promised}
 use Rattle.messages.proofs.Shows.{pair_shown}
 use Rattle.messages.proofs.together.pair.Goals as goal

@@ -1,4 +1,4 @@
-use Rattle.std.proofs.Common.{◌≡◌, ℕ, Bool, List, [], Ok, Err, Result, sym, refl, ap, ◌∙◌, lit≤}
+use Rattle.std.proofs.Common.{ℕ, Bool, List, [], Ok, Err, Result, sym, refl, ap, ◌∙◌, lit≤}
 use Rattle.std.proofs.lemmas.Result.{err_from_is_err_and}
 use Rattle.cells.specs.declared.cell.Cell.{Cell}
 use Rattle.cells.specs.declared.cell.Order.TheVariants.{Four}

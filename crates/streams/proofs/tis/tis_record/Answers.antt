@@ -1,4 +1,4 @@
-use Rattle.std.proofs.Common.{arith, lit≤}
+use Rattle.std.proofs.Common.{lit≤}
 use Rattle.streams.specs.Tis.{tis_fields, tis_record}
 use Rattle.streams.proofs.RecordLaws.{check_written, room_before}
 use Rattle.streams.proofs.TisLaws.{length-tis_fields}

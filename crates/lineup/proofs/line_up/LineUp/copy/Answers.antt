@@ -1,4 +1,4 @@
-use Rattle.std.proofs.Common.{◌≡◌, vec_items, arith, rules}
+use Rattle.std.proofs.Common.{◌≡◌, vec_items, rules}
 use Rattle.lineup.specs.Judging.{held}
 use Rattle.lineup.specs.LineUps.{NoneAbove, NoneBelow, Passes1, Passes2, Passes3, Passes4, Passes5, Passes7, Passes8}
 use Rattle.lineup.proofs.Views.{held_same, holds_same}

@@ -1,4 +1,4 @@
-use Rattle.std.proofs.Common.{◌≡◌, ◌+◌, ◌*◌, true, false, cond, length, vec_items, ap, ◌∙◌, rules}
+use Rattle.std.proofs.Common.{◌+◌, ◌*◌, true, false, cond, length, ap, ◌∙◌, rules}
 use Rattle.std.proofs.lemmas.List.{with_items_is}
 use Rattle.messages.specs.declared.content.Placing.TheVariants.{Placed, Complete}
 use Rattle.packets.specs.Packets.{Content, content_of}

@@ -1,7 +1,6 @@
-use Rattle.std.proofs.Common.{◌≡◌, ◌*◌, ◌<◌, ◌≤◌, true, length, vec_items, sym, ◌∙◌, arith, rules}
-use Rattle.messages.specs.Pieces.{piece_count}
+use Rattle.std.proofs.Common.{◌≡◌, ◌*◌, ◌≤◌, true, length, vec_items, rules}
 use Rattle.messages.specs.SenderCalls.{is_loaded, next_piece}
-use Rattle.messages.proofs.Cutting.{next_starts, next_reached}
+use Rattle.messages.proofs.Cutting.{next_starts}
 use Rattle.messages.proofs.sending.Sender.next.Goals as goal
 
 pub write_piece-length-requires : goal.write_piece-length-requires

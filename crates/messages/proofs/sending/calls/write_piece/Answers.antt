@@ -1,4 +1,4 @@
-use Rattle.std.proofs.Common.{◌≡◌, ◌+◌, ◌-◌, ◌*◌, min, ◌++◌, length, take, drop, sym, ◌∙◌, arith, rules}
+use Rattle.std.proofs.Common.{◌≡◌, ◌*◌, length, take, drop, arith, rules}
 use Rattle.messages.specs.Pieces.{piece}
 use Rattle.messages.proofs.Cutting.{piece_cut, length-piece}
 use Rattle.messages.proofs.sending.calls.write_piece.Goals as goal
