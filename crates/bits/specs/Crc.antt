@@ -1,5 +1,5 @@
 -- Cyclic redundancy checks. A number stands for a polynomial with coefficients modulo 2: its bit of 2 ^ k is the coefficient of x ^ k,
--- and bitXor is the sum. The generator is x ^ w + p, where p is below 2 ^ w.
+-- and bit_xor is the sum. The generator is x ^ w + p, where p is below 2 ^ w.
 use Rattle.std.specs.Prelude.{◌≡◌, ℕ, ◌+◌, ◌-◌, ◌*◌, ◌%◌, ◌^◌, ◌<◌, Bool, List, [], ◌∷◌, length, bit_xor}
 use Rattle.codes.specs.Symbols.{bit_number}
 use Rattle.bits.specs.Bits.{◌⊕◌, bit_at, number_of}

@@ -1,5 +1,5 @@
 // Scrambling of a stream of bits.
-ghost use Rattle.bits.specs.Scrambling.{earlier as earlierAt, following, scrambled, Scrambling};
+ghost use Rattle.bits.specs.Scrambling.{earlier as earlier_at, following, scrambled, Scrambling};
 ghost use Rattle.std.specs.Prelude.{◌≡◌, ◌∷◌, take};
 
 // Where the sequence stands: the nine values before the next one, newest first.
@@ -10,7 +10,7 @@ struct Sequence {
 
 impl Sequence {
     fn new() -> Self
-        ensures { result.earlier ≡ earlierAt 0 }
+        ensures { result.earlier ≡ earlier_at 0 }
     {
         Sequence { earlier: [true; 9] }
     }

@@ -2,7 +2,7 @@
 ghost use Rattle.std.specs.Prelude.{◌≡◌, ◌^◌, ◌<◌, ◌≤◌, length, take, drop, ◌-ℤ◌};
 ghost use Rattle.std.proofs.Common.{length-append, length-take, length-drop, arith};
 ghost use Rattle.cells.specs.Cells.{axis_bits};
-ghost use Rattle.cells.specs.Qam.{amplitude as amplitudeAt, amplitude_of, decided_number, low_bits, low_first, Nearest, qam_decided, qam_point};
+ghost use Rattle.cells.specs.Qam.{amplitude as amplitude_at, amplitude_of, decided_number, low_bits, low_first, Nearest, qam_decided, qam_point};
 ghost use Rattle.cells.specs.LowFirst.{length-low_bits};
 ghost use Rattle.std.proofs.lemmas.List.{take-append-drop};
 ghost use Rattle.cells.specs.QamConstellationLemmas.{axis_steady};
@@ -13,7 +13,7 @@ use crate::constellation::Constellation;
 // The amplitude of one of the axis's numbers.
 fn amplitude_of(order: Order, v: u8) -> i16
     requires { v < 2 ^ axis_bits order }
-    ensures { result ≡ amplitudeAt (axis_bits order) v }
+    ensures { result ≡ amplitude_at (axis_bits order) v }
 {
     (i16::from(order.largest()) - 2 * i16::from(v)) * 256
 }
@@ -31,7 +31,7 @@ pub fn amplitude(order: Order, v: u8) -> Option<i16>
 
 // How far `x` lies below the largest amplitude.
 fn depth(order: Order, x: i16) -> i32
-    ensures { result ≡ amplitudeAt (axis_bits order) 0 -ℤ x }
+    ensures { result ≡ amplitude_at (axis_bits order) 0 -ℤ x }
 {
     i32::from(order.largest()) * 256 - i32::from(x)
 }
@@ -72,7 +72,7 @@ fn write_low_first(v: u8, bits: &mut [bool])
 // The amplitude that the bits of an axis are sent with.
 fn axis_point(order: Order, bits: &[bool]) -> i16
     requires { length bits.now ≡ axis_bits order }
-    ensures { result ≡ amplitudeAt (axis_bits order) (low_first bits.now) }
+    ensures { result ≡ amplitude_at (axis_bits order) (low_first bits.now) }
 {
     amplitude_of(order, low_first(bits))
 }

@@ -5,7 +5,7 @@ use Rattle.cells.specs.declared.cell.Cell.{Cell}
 use Rattle.cells.specs.declared.cell.Order.TheVariants.{Four}
 use Rattle.reed_solomon.specs.Field.{times}
 use Rattle.reed_solomon.specs.Generators.{generator_of}
-use Rattle.reed_solomon.specs.Words.{word_of as rootedWord}
+use Rattle.reed_solomon.specs.Words.{word_of as rooted_word}
 use Rattle.bits.specs.Bits.{cut}
 use Rattle.bits.specs.Crc.{crc8_of}
 use Rattle.messages.specs.Packets.{packet_of}
@@ -32,11 +32,11 @@ zero_mis = record { occupancy = Khz1; tis = TisQam4; «data» = DataQam4 }
 
 -- RS(4,2)
 abbrev pub mis_word : List ℕ → List ℕ
-mis_word = rootedWord (generator_of 2)
+mis_word = rooted_word (generator_of 2)
 
 -- RS(29,9)
 abbrev pub tis_word : List ℕ → List ℕ
-tis_word = rootedWord (generator_of 20)
+tis_word = rooted_word (generator_of 20)
 
 pub record Printed : Type 0 where
   -- 64 times 2 in the field is 9

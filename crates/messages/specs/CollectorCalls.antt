@@ -160,7 +160,7 @@ fetch_refusal Collecting total n = Some NothingComplete
 fetch_refusal IsComplete total n = cond (nat_lt n total) (Some FewBytes) None
 
 -- fetch: the message goes to the front of the caller's bytes; those behind it stay
-abbrev pub Fetching : CollectorState → (bytes bytesAfter : List ℕ) → Result ℕ Refusal → Type 0
+abbrev pub Fetching : CollectorState → (bytes bytes_after : List ℕ) → Result ℕ Refusal → Type 0
 Fetching s xs ys (Ok n) =
     (fetch_refusal s.phase s.total (length xs) ≡ None) × (n ≡ s.total) × (ys ≡ take n s.bytes ++ drop n xs)
 Fetching s xs ys (Err e) = (fetch_refusal s.phase s.total (length xs) ≡ Some e) × (ys ≡ xs)

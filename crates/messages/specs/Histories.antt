@@ -80,12 +80,12 @@ pub data Run (s₀ : SenderState) (c₀ : CollectorState) : SenderState → Coll
   start : Run s₀ c₀ s₀ c₀ nothing
   load : {s : SenderState} {c : CollectorState} {h : History} → Run s₀ c₀ s c h → (message : List ℕ) (t : SenderState) → Loading s t message (Ok tt) → Run s₀ c₀ t c (after_load h message)
   load_refused : {s : SenderState} {c : CollectorState} {h : History} → Run s₀ c₀ s c h → (message : List ℕ) (t : SenderState) (e : Refusal) → Loading s t message (Err e) → Run s₀ c₀ t c h
-  next : {s : SenderState} {c : CollectorState} {h : History} → Run s₀ c₀ s c h → (bytes bytesAfter : List ℕ) (t : SenderState) (header : Header) (n : ℕ) → Nexting s t bytes bytesAfter (Ok (header, n)) → Run s₀ c₀ t c (after_next h (content_of header (take n bytesAfter)))
-  next_refused : {s : SenderState} {c : CollectorState} {h : History} → Run s₀ c₀ s c h → (bytes bytesAfter : List ℕ) (t : SenderState) (e : Refusal) → Nexting s t bytes bytesAfter (Err e) → Run s₀ c₀ t c h
+  next : {s : SenderState} {c : CollectorState} {h : History} → Run s₀ c₀ s c h → (bytes bytes_after : List ℕ) (t : SenderState) (header : Header) (n : ℕ) → Nexting s t bytes bytes_after (Ok (header, n)) → Run s₀ c₀ t c (after_next h (content_of header (take n bytes_after)))
+  next_refused : {s : SenderState} {c : CollectorState} {h : History} → Run s₀ c₀ s c h → (bytes bytes_after : List ℕ) (t : SenderState) (e : Refusal) → Nexting s t bytes bytes_after (Err e) → Run s₀ c₀ t c h
   clear : {s : SenderState} {c : CollectorState} {h : History} → Run s₀ c₀ s c h → (t : SenderState) → Clearing s t (Ok tt) → Run s₀ c₀ t c h
   clear_refused : {s : SenderState} {c : CollectorState} {h : History} → Run s₀ c₀ s c h → (t : SenderState) (e : Refusal) → Clearing s t (Err e) → Run s₀ c₀ t c h
   -- a sent packet is taken, whatever the answer
   take_sent : {s : SenderState} {c : CollectorState} {h : History} → Run s₀ c₀ s c h → (f : Sent) → Due h.sent h.taken f → (u : CollectorState) (answer : Result Placing Refusal) → Taking c u f.packet answer → Run s₀ c₀ s u (after_take h f answer)
   -- anything that is refused takes none
   take_refused : {s : SenderState} {c : CollectorState} {h : History} → Run s₀ c₀ s c h → (p : Content) (u : CollectorState) (e : Refusal) → Taking c u p (Err e) → Run s₀ c₀ s u h
-  fetch : {s : SenderState} {c : CollectorState} {h : History} → Run s₀ c₀ s c h → (bytes bytesAfter : List ℕ) (answer : Result ℕ Refusal) → Fetching c bytes bytesAfter answer → Run s₀ c₀ s c h
+  fetch : {s : SenderState} {c : CollectorState} {h : History} → Run s₀ c₀ s c h → (bytes bytes_after : List ℕ) (answer : Result ℕ Refusal) → Fetching c bytes bytes_after answer → Run s₀ c₀ s c h

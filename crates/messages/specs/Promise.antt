@@ -47,8 +47,8 @@ TellsComplete d c h =
 abbrev pub GivesBack : CollectorState → History → Type 0
 GivesBack c h =
     (number : ℕ) (message : List ℕ) → StandsComplete number message h.taken
-    → (bytes bytesAfter : List ℕ) (answer : Result ℕ Refusal) → Fetching c bytes bytesAfter answer → length message ≤ length bytes
-    → (answer ≡ Ok (length message)) × (bytesAfter ≡ message ++ drop (length message) bytes)
+    → (bytes bytes_after : List ℕ) (answer : Result ℕ Refusal) → Fetching c bytes bytes_after answer → length message ≤ length bytes
+    → (answer ≡ Ok (length message)) × (bytes_after ≡ message ++ drop (length message) bytes)
 
 -- over every history of this sender and this collector
 abbrev pub Promise : ℕ → SenderState → CollectorState → Type 0

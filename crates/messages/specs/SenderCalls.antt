@@ -80,7 +80,7 @@ abbrev pub Carries : Content → (before after : List ℕ) → Header → ℕ �
 Carries p xs ys h n = (content_of h p.bytes ≡ p) × (n ≡ length p.bytes) × (ys ≡ p.bytes ++ drop n xs)
 
 -- next: the packet that comes next; refused where nothing is loaded, and everything is as it was
-abbrev pub Nexting : (before after : SenderState) (bytes bytesAfter : List ℕ) → Result (Header × ℕ) Refusal → Type 0
+abbrev pub Nexting : (before after : SenderState) (bytes bytes_after : List ℕ) → Result (Header × ℕ) Refusal → Type 0
 Nexting s t xs ys (Ok r) = (is_loaded s.progress ≡ true) × Carries (next_packet s) xs ys r.0 r.1 × (t ≡ advanced s)
 Nexting s t xs ys (Err e) = (is_loaded s.progress ≡ false) × (e ≡ NothingLoaded) × (t ≡ s) × (ys ≡ xs)
 

@@ -24,5 +24,5 @@ symbols_of decided n cells = cut 7 n (decided_bits decided cells)
 
 -- Words of different records differ in at least `distance` places: what is sent, and any other.
 abbrev pub ToldApart : {R : Type 0} → (R → List Bool) → ℕ → (List ℕ → List ℕ) → (distance : ℕ) → R → Type 0
-ToldApart {R} recordBits k word distance sent =
-    (other : R) → differing (λ (x : ℕ). x) (word (message_of k (recordBits sent))) (word (message_of k (recordBits other))) < distance → other ≡ sent
+ToldApart {R} record_bits k word distance sent =
+    (other : R) → differing (λ (x : ℕ). x) (word (message_of k (record_bits sent))) (word (message_of k (record_bits other))) < distance → other ≡ sent

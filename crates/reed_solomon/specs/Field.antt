@@ -1,5 +1,5 @@
 -- GF(128): a symbol is a polynomial in α of degree below 7 over the bits, bit 6 standing for α^6, with α^7 = α^3 + 1.
--- A sum is bitwise, bitXor.
+-- A sum is bitwise, bit_xor.
 use Rattle.std.specs.Prelude.{ℕ, zero, suc, ◌*◌, ◌/◌, ◌%◌, bit_xor}
 
 -- α times a symbol: each power moves up by one, and α^7 comes back as α^3 + 1

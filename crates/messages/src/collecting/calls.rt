@@ -1,7 +1,7 @@
 // What a collector does.
 ghost use Rattle.std.specs.Prelude.{◌≡◌, ◌+◌, ◌*◌, ◌<◌, ◌≤◌, false, ◌&&◌, length, drop, replicate, IfOk, if◌then◌else◌, Some, vec_len, slice_index_or};
 ghost use Rattle.packets.specs.Packets.{content_of};
-ghost use Rattle.messages.specs.CollectorCalls.{new_collector, none_there, all_true, any_true, completes, known, misplaced as misplacedAt, wrong_length, behind as behindLast, begun, placed, written, none_missing, Placing-in, Taking, Fetching};
+ghost use Rattle.messages.specs.CollectorCalls.{new_collector, none_there, all_true, any_true, completes, known, misplaced as misplaced_at, wrong_length, behind as behind_last, begun, placed, written, none_missing, Placing-in, Taking, Fetching};
 ghost use Rattle.messages.specs.declared.content.Placing.TheVariants.{Placed, Complete};
 ghost use Rattle.messages.specs.Views.{collector_state};
 
@@ -112,7 +112,7 @@ fn wrong_length(piece_length: usize, last: bool, length: usize) -> bool
 
 // Whether the id lies behind the last piece.
 fn behind(last: Option<usize>, id: usize) -> bool
-    ensures { result ≡ behindLast last id }
+    ensures { result ≡ behind_last last id }
 {
     match last {
         Some(last) => last < id,
@@ -138,7 +138,7 @@ fn misplaced(
 ) -> bool
     requires most { piece_length ≤ 1434 }
     requires ids { length there.now ≡ 1024 }
-    ensures { result ≡ misplacedAt piece_length there.now last (content_of header piece.now) }
+    ensures { result ≡ misplaced_at piece_length there.now last (content_of header piece.now) }
 {
     let id = usize::from(header.id);
     if wrong_length(piece_length, header.last, piece.len()) || id >= 1024 {

@@ -38,12 +38,12 @@ module _ (g : given.Over) (code : g.row.C.Denot) (points : g.row.Q.Denot) (cells
       }
 
   -- what was mended, at the MIS code's own lengths
-  sizes : (before after : List ℕ) (bitsBefore bitsAfter : List Bool) (r : Result ℕ BeyondReach) →
-      RecordMended (g.C.SendingCode.message_length code) (g.C.SendingCode.word_length code) (g.C.SendingCode.word code) (g.C.MendingCode.reach code) (g.Q.Constellation.decided points Four) cells before after bitsBefore bitsAfter r
-      → RecordMended 2 4 (g.C.SendingCode.word code) (g.C.MendingCode.reach code) (g.Q.Constellation.decided points Four) cells before after bitsBefore bitsAfter r
-  sizes before after bitsBefore bitsAfter r =
+  sizes : (before after : List ℕ) (bits_before bits_after : List Bool) (r : Result ℕ BeyondReach) →
+      RecordMended (g.C.SendingCode.message_length code) (g.C.SendingCode.word_length code) (g.C.SendingCode.word code) (g.C.MendingCode.reach code) (g.Q.Constellation.decided points Four) cells before after bits_before bits_after r
+      → RecordMended 2 4 (g.C.SendingCode.word code) (g.C.MendingCode.reach code) (g.Q.Constellation.decided points Four) cells before after bits_before bits_after r
+  sizes before after bits_before bits_after r =
       mended_sizes (g.C.SendingCode.message_length code) 2 (g.C.SendingCode.word_length code) 4 (g.C.SendingCode.word code) (g.C.MendingCode.reach code) (g.Q.Constellation.decided points Four)
-      cells before after bitsBefore bitsAfter r (g.met.C.MisCode.two code) (g.met.C.MisCode.four code)
+      cells before after bits_before bits_after r (g.met.C.MisCode.two code) (g.met.C.MisCode.four code)
 
 pub returns-in_err-mended : goal.returns-in_err-mended
 returns-in_err-mended g c =

@@ -40,13 +40,13 @@ module _ (g : given.Over) (code : g.row.C.Denot) (points : g.row.Q.Denot) (q : T
       }
 
   -- what was mended, at the TIS code's own lengths
-  sizes : (o : Order) → o ≡ tis_order q → (before after : List ℕ) (bitsBefore bitsAfter : List Bool) (r : Result ℕ BeyondReach) →
-      RecordMended (g.C.SendingCode.message_length code) (g.C.SendingCode.word_length code) (g.C.SendingCode.word code) (g.C.MendingCode.reach code) (g.Q.Constellation.decided points o) cells before after bitsBefore bitsAfter r
-      → RecordMended 9 29 (g.C.SendingCode.word code) (g.C.MendingCode.reach code) (g.Q.Constellation.decided points (tis_order q)) cells before after bitsBefore bitsAfter r
-  sizes o e before after bitsBefore bitsAfter r h =
-      subst (λ (x : Order). RecordMended 9 29 (g.C.SendingCode.word code) (g.C.MendingCode.reach code) (g.Q.Constellation.decided points x) cells before after bitsBefore bitsAfter r) e
+  sizes : (o : Order) → o ≡ tis_order q → (before after : List ℕ) (bits_before bits_after : List Bool) (r : Result ℕ BeyondReach) →
+      RecordMended (g.C.SendingCode.message_length code) (g.C.SendingCode.word_length code) (g.C.SendingCode.word code) (g.C.MendingCode.reach code) (g.Q.Constellation.decided points o) cells before after bits_before bits_after r
+      → RecordMended 9 29 (g.C.SendingCode.word code) (g.C.MendingCode.reach code) (g.Q.Constellation.decided points (tis_order q)) cells before after bits_before bits_after r
+  sizes o e before after bits_before bits_after r h =
+      subst (λ (x : Order). RecordMended 9 29 (g.C.SendingCode.word code) (g.C.MendingCode.reach code) (g.Q.Constellation.decided points x) cells before after bits_before bits_after r) e
       (mended_sizes (g.C.SendingCode.message_length code) 9 (g.C.SendingCode.word_length code) 29 (g.C.SendingCode.word code) (g.C.MendingCode.reach code) (g.Q.Constellation.decided points o)
-      cells before after bitsBefore bitsAfter r (g.met.C.TisCode.nine code) (g.met.C.TisCode.twenty_nine code) h)
+      cells before after bits_before bits_after r (g.met.C.TisCode.nine code) (g.met.C.TisCode.twenty_nine code) h)
 
 pub returns-in_err-mended : goal.returns-in_err-mended
 returns-in_err-mended g c =
