@@ -1,10 +1,10 @@
 -- Scrambling: a sequence of bits is added to a stream.
-use Rattle.std.specs.Prelude.{◌≡◌, ℕ, zero, suc, ◌+◌, ◌<◌, Bool, true, false, List, [], ◌∷◌, length, get_or, take, replicate, slice_index_or}
+use Rattle.std.specs.Prelude.{◌≡◌, ℕ, zero, suc, ◌+◌, ◌<◌, Bool, true, false, List, [], ◌∷◌, length, take, replicate, slice_index_or}
 use Rattle.bits.specs.Bits.{◌⊕◌}
 
 -- the value that follows nine earlier ones, given newest first: the sum of the values five and nine places before it
 abbrev pub following : List Bool → Bool
-following values = get_or values 4 false ⊕ get_or values 8 false
+following values = slice_index_or values 4 false ⊕ slice_index_or values 8 false
 
 -- the nine values before a_n, newest first; before the first of the sequence all are 1
 unfoldable pub earlier : ℕ → List Bool
@@ -23,4 +23,4 @@ pub record Scrambling (before after : List Bool) : Type 0 where
   pub ones : (k : ℕ) → k < 9 → sequence k ≡ true
   pub sums : (n : ℕ) → sequence (n + 9) ≡ sequence (n + 4) ⊕ sequence n
   pub size : length after ≡ length before
-  pub bits : (k : ℕ) → k < length before → slice_index_or after k false ≡ get_or before k false ⊕ sequence (k + 9)
+  pub bits : (k : ℕ) → k < length before → slice_index_or after k false ≡ slice_index_or before k false ⊕ sequence (k + 9)

@@ -1,3 +1,4 @@
+-- QAM decides as many bits as it maps, and a point moved by at most 255 units as it was sent.
 use Rattle.std.specs.Prelude.{◌≡◌, ◌^◌, ◌≤◌, Bool, List, length, ℤ}
 use Rattle.std.proofs.Common.{ap, ◌∙◌, arith}
 use Rattle.cells.specs.declared.cell.Order.{Order}

@@ -15,13 +15,13 @@ get_or-added (x ∷ xs) (y ∷ ys) zero h k = refl
 get_or-added (x ∷ xs) (y ∷ ys) (suc i) h k = get_or-added xs ys i (omega arith) (omega arith)
 
 -- past the end stands 0
-get_d_moved : (xs : List ℕ) (i : ℕ) → get_or (drop 1 xs ++ 0 ∷ []) i 0 ≡ get_or xs (suc i) 0
-get_d_moved [] zero = refl
-get_d_moved [] (suc i) = refl
-get_d_moved (x ∷ []) zero = refl
-get_d_moved (x ∷ []) (suc i) = refl
-get_d_moved (x ∷ y ∷ ys) zero = refl
-get_d_moved (x ∷ y ∷ ys) (suc i) = get_d_moved (y ∷ ys) i
+get_or-moved : (xs : List ℕ) (i : ℕ) → get_or (drop 1 xs ++ 0 ∷ []) i 0 ≡ get_or xs (suc i) 0
+get_or-moved [] zero = refl
+get_or-moved [] (suc i) = refl
+get_or-moved (x ∷ []) zero = refl
+get_or-moved (x ∷ []) (suc i) = refl
+get_or-moved (x ∷ y ∷ ys) zero = refl
+get_or-moved (x ∷ y ∷ ys) (suc i) = get_or-moved (y ∷ ys) i
 
 -- the remainder's register, moved up, with f times the generator taken away
 unfoldable pub step_by : List ℕ → List ℕ → ℕ → List ℕ
@@ -43,7 +43,7 @@ module _ (g rest : List ℕ) (f : ℕ) (some : 0 < length g) (sized : length res
   unfolding step_by
   get_or_step i h =
       get_or-added (drop 1 rest ++ 0 ∷ []) (map (times f) g) i (omega (arith, length_moved)) (omega (arith, length-map g (times f)))
-      ∙ ap (λ x. bit_xor x (get_or (map (times f) g) i 0)) (get_d_moved rest i ∙ ap (λ n. get_or rest n 0) (sym (add-one i)))
+      ∙ ap (λ x. bit_xor x (get_or (map (times f) g) i 0)) (get_or-moved rest i ∙ ap (λ n. get_or rest n 0) (sym (add-one i)))
       ∙ ap (bit_xor (get_or rest (i + 1) 0)) (get_or-map (times f) g i 0 0 h)
 
   pub symbols_step : Symbols g → Symbols rest → Symbols (step_by g rest f)

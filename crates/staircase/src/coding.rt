@@ -26,7 +26,7 @@ impl SendingCode for Staircase {
 
     ghost short = { λ c. word-short c.lift c.rows c.columns c.lifted c.shaped };
 
-    ghost positive = { first_of (Prim.search rules, Prim.grind (arith, Self.row.coded.inj)) };
+    ghost positive = { Prim.search rules };
 
     // words that differ in no place begin with the same message
     ghost distant = { λ c m o h k b d near.
@@ -55,7 +55,7 @@ impl SendingCode for Staircase {
 impl MendingCode for Staircase {
     ghost reach = { λ c. 0 };
 
-    ghost unique = { first_of (Prim.search rules, Prim.grind (arith, Self.row.coded.inj)) };
+    ghost unique = { Prim.search rules };
 
     fn mend(&self, given: &[bool], message: &mut [bool]) -> Result<usize, BeyondReach> {
         if !self.checks_hold(given) {
