@@ -1,5 +1,5 @@
 -- Lists of bits by their places, and sums of bits. Assumes nothing.
-use Rattle.std.specs.Prelude.{◌≡◌, ℕ, ◌+◌, ◌-◌, ◌*◌, ◌%◌, ◌<◌, Bool, true, false, List, [], ◌∷◌, ◌++◌, length, get_or, take, drop, ℤ, pos, negsuc, None, slice_index_or, slice_set, refl}
+use Rattle.std.specs.Prelude.{◌≡◌, ℕ, ◌+◌, ◌-◌, ◌*◌, ◌%◌, ◌<◌, Bool, true, false, List, [], ◌∷◌, ◌++◌, length, take, drop, ℤ, pos, negsuc, None, slice_index_or, slice_set, refl}
 use Rattle.std.proofs.Common.{ap, ◌∙◌, add-mul, arith}
 use Rattle.std.proofs.lemmas.List.{append_assoc, drop_more, set_at, get_or-append_right, get_or-drop, get_or-take, drop-drop}
 use Rattle.std.proofs.lemmas.Nat.{mod_below}
@@ -51,7 +51,7 @@ places_next f old new r e =
     let past = get_or-append_right (places r f) (drop r old) r r false (length-places r f) (omega arith) in
     let left = get_or-drop r old (r - r) false in
     let same : r + (r - r) ≡ r = omega arith in
-    ap (λ (xs : List Bool). get_or xs r false) e ∙ past ∙ left ∙ ap (λ (k : ℕ). get_or old k false) same
+    ap (λ (xs : List Bool). slice_index_or xs r false) e ∙ past ∙ left ∙ ap (λ (k : ℕ). slice_index_or old k false) same
 
 -- a column with the exponent −1 gives nothing
 pub moved_none : (lift : ℕ) (e : ℤ) (bits : List Bool) (r : ℕ) → None ≡ shift_of e → moved lift e bits r ≡ false
@@ -78,14 +78,14 @@ row_sum_more lift es message j r h =
 
 -- one more column added to the sums
 pub row_more : (lift : ℕ) (es : List ℤ) (message old sums new : List Bool) (j : ℕ) → length sums ≡ lift → j < length es
-    → ((r : ℕ) → r < lift → get_or sums r false ⊕ row_sum lift (drop j es) (drop (j * lift) message) r ≡ get_or old r false ⊕ row_sum lift es message r)
-    → new ≡ places lift (λ r. get_or sums r false ⊕ moved lift (slice_index_or es j (pos 0)) (take lift (drop (j * lift) message)) r)
+    → ((r : ℕ) → r < lift → slice_index_or sums r false ⊕ row_sum lift (drop j es) (drop (j * lift) message) r ≡ slice_index_or old r false ⊕ row_sum lift es message r)
+    → new ≡ places lift (λ r. slice_index_or sums r false ⊕ moved lift (slice_index_or es j (pos 0)) (take lift (drop (j * lift) message)) r)
     → (r : ℕ) → r < lift
-    → get_or new r false ⊕ row_sum lift (drop (j + 1) es) (drop ((j + 1) * lift) message) r ≡ get_or old r false ⊕ row_sum lift es message r
+    → slice_index_or new r false ⊕ row_sum lift (drop (j + 1) es) (drop ((j + 1) * lift) message) r ≡ slice_index_or old r false ⊕ row_sum lift es message r
 row_more lift es message old sums new j size h inv e r l =
     let rest = row_sum lift (drop (j + 1) es) (drop ((j + 1) * lift) message) r in
     let here = moved lift (slice_index_or es j (pos 0)) (drop (j * lift) message) r in
-    let at : get_or new r false ≡ get_or sums r false ⊕ here =
+    let at : slice_index_or new r false ≡ slice_index_or sums r false ⊕ here =
     rw e (get_or-places lift _ r l ∙ (rw (moved-group lift (slice_index_or es j (pos 0)) (drop (j * lift) message) r (omega arith)))) in
     ap (λ (b : Bool). b ⊕ rest) at ∙ sum_assoc (slice_index_or sums r false) here rest
     ∙ (rw (← row_sum_more lift es message j r h) (inv r l))
