@@ -4,7 +4,7 @@ ghost use Rattle.cells.specs.Cells.{cell_bits};
 ghost use Rattle.modem.specs.Carrying.{cells_of, symbols_of};
 ghost use Rattle.modem.specs.Reading.{RecordMended};
 
-use bits::{cut_symbols, scramble, spread_symbols};
+use bits::{cut, scramble, spread};
 use cells::{Cell, Constellation, Order, decide_bits, map_bits};
 use codes::words::{BeyondReach, MendingCode};
 
@@ -28,7 +28,7 @@ pub fn carry<Q: Constellation>(points: &Q, order: Order, word: &[u8], cells: &mu
 {
     let mut store = [false; MOST_BITS];
     let bits = &mut store[0..7 * word.len()];
-    spread_symbols(word, bits);
+    spread::<7>(word, bits);
     map_bits(points, order, bits, cells);
 }
 
@@ -41,7 +41,7 @@ pub fn decide_word<Q: Constellation>(points: &Q, order: Order, cells: &[Cell], w
     let mut store = [false; MOST_BITS];
     let bits = &mut store[0..7 * word.len()];
     decide_bits(points, order, cells, bits);
-    cut_symbols(bits, word);
+    cut::<7>(bits, word);
 }
 
 // Mends the message that cells carry, and writes its record's bits; where it is beyond reach nothing is written.
@@ -62,7 +62,7 @@ pub(crate) fn mend_record<C: MendingCode<Symbol = u8>, Q: Constellation>(
     let given = &mut store[0..code.word_length()];
     decide_word(points, order, cells, given);
     let mended = code.mend(given, message)?;
-    spread_symbols(message, bits);
+    spread::<7>(message, bits);
     scramble(bits);
     Ok(mended)
 }
