@@ -63,17 +63,18 @@ module _ (decided : Cell → List Bool) (width : ℕ) (sized : (x : Cell) → le
   length-decided [] = rw mul-zero
   length-decided (x ∷ cells) = rw (length-append, sized, length-decided cells) (omega (arith, mul-suc width (length cells)))
 
-  -- one more cell decided, of which `part` bits are wanted
-  pub part_decided : (cells : List Cell) (before bits written : List Bool) (i done part k : ℕ) (d : Cell) → i < length cells → done ≡ min (length before) (width * i) → part ≡ min width (length before - done) → k ≡ part → bits ≡ take done (decided_bits decided (take i cells)) ++ drop done before → written ≡ take part (decided (get_or cells i d)) → put_mid done k bits written ≡ take (done + part) (decided_bits decided (take (i + 1) cells)) ++ drop (done + part) before
-  part_decided cells before bits written i done part k d h d-is p-is k-is b-is w-is =
+  -- one more cell decided, whose bits go from `start` to `end`
+  pub part_decided : (cells : List Cell) (before bits written : List Bool) (i start end : ℕ) (d : Cell) → i < length cells → start ≡ min (length before) (width * i) → end ≡ min (length before) (start + width) → bits ≡ take start (decided_bits decided (take i cells)) ++ drop start before → written ≡ take (end - start) (decided (get_or cells i d)) → put_mid start (end - start) bits written ≡ take end (decided_bits decided (take (i + 1) cells)) ++ drop end before
+  part_decided cells before bits written i start end d h start-is end-is b-is w-is =
       let first = decided_bits decided (take i cells) in
       let second = decided (get_or cells i d) in
       let count : length (take i cells) ≡ i = simp length-take (omega arith) in
       let long : length first ≡ width * i = length-decided (take i cells) ∙ ap (λ (n : ℕ). width * n) count in
       let wide : length second ≡ width = sized (get_or cells i d) in
-      let front : length (take done first) ≡ done = simp length-take (omega arith) in
-      let both = take_blocks first second (length before) done part (omega arith) (omega arith) in
-      rw (k-is, b-is, part_written (take done first) before written done part front, w-is, decided_more decided cells i d h, both)
+      let front : length (take start first) ≡ start = simp length-take (omega arith) in
+      let whole : start + (end - start) ≡ end = omega arith in
+      let both = rw whole at (take_blocks first second (length before) start (end - start) (omega arith) (omega arith)) in
+      rw (b-is, part_written (take start first) before written start (end - start) front, w-is, whole, decided_more decided cells i d h, both)
 
 module _ (point : List Bool → Cell) (width : ℕ) where
   pub mapped_none : (bits : List Bool) → mapped point width 0 bits ≡ []

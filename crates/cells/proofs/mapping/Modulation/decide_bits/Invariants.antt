@@ -1,11 +1,12 @@
 use Rattle.std.proofs.Common.{◌≡◌, ◌*◌, min, ◌++◌, length, take, drop}
 use Rattle.cells.specs.Cells.{cell_bits}
 use Rattle.cells.specs.Mapping.{decided_bits}
-use Rattle.cells.proofs.mapping.decide_bits.Given as goal
+use Rattle.cells.proofs.mapping.Modulation.decide_bits.Given as goal
 
-abbrev pub invariant-loop-cell : goal.invariant-loop-cell
-invariant-loop-cell g l =
-    (l.done ≡ min (length l.initial.bits) (cell_bits l.order * l.cell-index)) ×
-    (l.bits ≡
-    take l.done (decided_bits (g.Q.Constellation.decided l.points l.order) (take l.cell-index l.cells)) ++
-    drop l.done l.initial.bits)
+-- the bits of the first `i` cells are decided, and those behind them are as they were
+abbrev pub invariant-loop-i : goal.invariant-loop-i
+invariant-loop-i g l =
+    let done = min (length l.initial.bits) (cell_bits l.self.order * l.i) in
+    l.bits ≡
+    take done (decided_bits (g.Q.Constellation.decided l.self.points.now l.self.order) (take l.i l.cells)) ++
+    drop done l.initial.bits
