@@ -1,5 +1,5 @@
 -- Laws of numbers as bits, highest bit first.
-use Rattle.std.proofs.Common.{◌≡◌, ℕ, zero, suc, ◌+◌, ◌*◌, ◌/◌, ◌%◌, ◌^◌, ◌<◌, ◌≤◌, Bool, true, false, eqb, List, [], ◌∷◌, ◌++◌, length, get_or, take, drop, set, sym, refl, ap, ◌∙◌, inl, inr, mod-lt, mod-eq_of_lt, mul_assoc, suc-mul, mul_comm, add-mul, add_comm, suc-add, pow-suc, zero-add, zero-mul, mul-suc, add-one, one-add, arith, lit<, pow_mono, pow_pos, bit_or}
+use Rattle.std.proofs.Common.{take-add, ◌≡◌, ℕ, zero, suc, ◌+◌, ◌*◌, ◌/◌, ◌%◌, ◌^◌, ◌<◌, ◌≤◌, Bool, true, false, eqb, List, [], ◌∷◌, ◌++◌, length, get_or, take, drop, set, sym, refl, ap, ◌∙◌, inl, inr, mod-lt, mod-eq_of_lt, mul_assoc, suc-mul, mul_comm, add-mul, add_comm, pow-suc, zero-add, zero-mul, mul-suc, add-one, one-add, arith, lit<, pow_mono, pow_pos, bit_or}
 use native.Mathlib.Nat.{mod-one, mul-add-mod_self_right}
 use borrow.Rule.Slice.PartMut.{put_mid}
 use mir.Val.{bool_byte}
@@ -7,7 +7,7 @@ use lib.Pow.{mod-pow-add, high}
 use Rattle.std.proofs.Math.Nat.{mul-le-mul_left, mul-le-mul_right}
 use Rattle.std.specs.List.{fold}
 use Rattle.std.proofs.lemmas.Nat.{or_shifted}
-use Rattle.std.proofs.lemmas.List.{append_assoc, append-nil, take_more, drop_at, drop-drop, drop_more, set_at, length-append, length-drop, length-take, length-take-le, take_all, take_at}
+use Rattle.std.proofs.lemmas.List.{append_assoc, append-nil, take_more, drop_at, drop-drop, drop_more, set_at, length-append, length-drop, length-take, length-take-le, take_at}
 use Rattle.std.proofs.lemmas.Bool.{cases_eq, ne_eqb, eq-eqb}
 use Rattle.codes.specs.Symbols.{bit_number, Below128}
 use Rattle.bits.specs.Bits.{AllBelow, bits_of, number_of, field_at, cut, spread}
@@ -137,11 +137,6 @@ cut-spread_more w (x ∷ xs) more h =
 pub cut-spread : (w : ℕ) (xs : List ℕ) → AllBelow (2 ^ w) xs → cut w (length xs) (spread w xs) ≡ xs
 cut-spread w xs h = rw append-nil at (cut-spread_more w xs [] h)
 
-pub take_plus : (m n : ℕ) (bs : List Bool) → take (m + n) bs ≡ take m bs ++ take n (drop m bs)
-take_plus zero n bs = rw zero-add
-take_plus (suc m) n [] = rw suc-add (sym (take_all n [] (omega arith)))
-take_plus (suc m) n (b ∷ bs) = rw suc-add (ap (λ l. b ∷ l) (take_plus m n bs))
-
 -- spreading gives back the bits that were cut
 pub spread_cut : (w n : ℕ) (bs : List Bool) → n * w ≤ length bs → spread w (cut w n bs) ≡ take (n * w) bs
 unfolding cut spread
@@ -151,7 +146,7 @@ spread_cut w (suc n) bs h =
     let e : length (take w bs) ≡ w = length-take-le w bs (omega arith) in
     let k : n * w ≤ length (drop w bs) = rw length-drop (omega arith) in
     let whole : bits_of w (number_of (take w bs)) ≡ take w bs = rw e at (bits_of-number_of (take w bs)) in
-    rw (s, add_comm (n * w) w, take_plus w (n * w) bs, whole, spread_cut w n (drop w bs) k)
+    rw (s, add_comm (n * w) w, take-add w (n * w) bs, whole, spread_cut w n (drop w bs) k)
 
 -- every number that is cut fits its width
 pub cut_below : (w n : ℕ) (bs : List Bool) → AllBelow (2 ^ w) (cut w n bs)

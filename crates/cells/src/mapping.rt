@@ -19,9 +19,9 @@ pub struct Modulation<'a, Q> {
 fn fill_up(bits: &[bool], cell: &mut [bool])
     ensures { cell.new ≡ filled (length cell.old) bits.now }
 {
-    let present = bits.len().min(cell.len());
+    let present = cell.len().min(bits.len());
     cell.fill(false);
-    cell[0..present].copy_from_slice(&bits[0..present]);
+    cell[..present].copy_from_slice(&bits[..present]);
 }
 
 impl<Q: Constellation> Modulation<'_, Q> {
@@ -33,7 +33,7 @@ impl<Q: Constellation> Modulation<'_, Q> {
             return Cell::ORIGIN;
         }
         let mut store = [false; MOST_BITS];
-        let all = &mut store[0..self.order.cell_bits()];
+        let all = &mut store[..self.order.cell_bits()];
         fill_up(bits, all);
         self.points.map(self.order, all)
     }
@@ -47,7 +47,7 @@ impl<Q: Constellation> Modulation<'_, Q> {
         let mut rest = bits;
         for cell in cells.iter_mut() {
             *cell = self.next_cell(rest);
-            rest = &rest[rest.len().min(width)..];
+            rest = &rest[width.min(rest.len())..];
         }
     }
 
@@ -57,9 +57,9 @@ impl<Q: Constellation> Modulation<'_, Q> {
         ensures { bits.new ≡ take (length bits.old) (Q.decided self.now.points.now self.now.order cell) }
     {
         let mut store = [false; MOST_BITS];
-        let all = &mut store[0..self.order.cell_bits()];
+        let all = &mut store[..self.order.cell_bits()];
         self.points.decide(self.order, cell, all);
-        bits.copy_from_slice(&all[0..bits.len()]);
+        bits.copy_from_slice(&all[..bits.len()]);
     }
 
     // Decides the bits of a stream from its cells. What its last cell has beyond them, and further cells, are ignored.

@@ -99,7 +99,7 @@ impl Constellation for Qam {
 
     fn decide(&self, order: Order, cell: Cell, bits: &mut [bool]) {
         let m = order.axis_bits();
-        write_low_first(decide_axis(order, cell.real), &mut bits[0..m]);
+        write_low_first(decide_axis(order, cell.real), &mut bits[..m]);
         write_low_first(decide_axis(order, cell.imaginary), &mut bits[m..]);
     }
 }

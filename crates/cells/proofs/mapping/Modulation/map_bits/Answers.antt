@@ -1,12 +1,12 @@
-use Rattle.std.proofs.Common.{◌≡◌, ◌*◌, length, drop, mul-zero, arith}
-use Rattle.std.proofs.lemmas.List.{append-nil, drop_all}
+use Rattle.std.proofs.Common.{◌≡◌, ◌*◌, drop, mul-zero, refl, arith}
 use Rattle.cells.specs.Cells.{cell_bits}
-use Rattle.cells.specs.Mapping.{next_cell}
-use Rattle.cells.proofs.Streams.{cell_mapped, mapped_none, rest_left}
+use Rattle.cells.specs.Mapping.{mapped, next_cell}
+use Rattle.cells.proofs.Streams.{cell_mapped, rest_left}
 use Rattle.cells.proofs.mapping.Modulation.map_bits.Goals as goal
 
 pub loop-cell-init : goal.loop-cell-init
-loop-cell-init g c = (rw mul-zero, rw mapped_none)
+unfolding mapped
+loop-cell-init g c = (rw mul-zero, refl)
 
 pub loop-cell-preserved : goal.loop-cell-preserved
 loop-cell-preserved g c =
@@ -18,10 +18,3 @@ loop-cell-preserved g c =
       rest_left p w bits c.loop-cell.rest.now i c.min.result (omega arith) c.loop-cell.invariant.0,
       cell_mapped p w bits c.args.cells.now c.loop-cell.cells c.next_cell.result i (omega arith) c.loop-cell.invariant.1 cell,
     )
-
-pub returns : goal.returns
-returns g c =
-    let n = length c.args.cells.now in
-    let e : c.loop-cell.cell-index ≡ n = omega arith in
-    let none = drop_all n c.args.cells.now (omega arith) in
-    rw (e, none, append-nil) at c.loop-cell.invariant.1
