@@ -1,5 +1,5 @@
 -- What is within one place of the symbols given, by the values at the roots. Assumes nothing.
-use Rattle.std.proofs.Common.{◌≡◌, ℕ, zero, suc, ◌+◌, ◌-◌, ◌<◌, ◌≤◌, List, [], ◌∷◌, length, take, set, sym, refl, ap, ◌∙◌, subst, ⊎_elim, add-one, arith}
+use Rattle.std.proofs.Common.{◌≡◌, ℕ, zero, suc, ◌+◌, ◌<◌, ◌≤◌, List, [], ◌∷◌, length, take, set, sym, refl, ap, ◌∙◌, subst, ⊎_elim, add-one, arith}
 use Rattle.std.proofs.lemmas.List.{length-take-le}
 use Rattle.codes.specs.Mending.{Within}
 use Rattle.codes.specs.Symbols.{differing}
@@ -11,7 +11,7 @@ use Rattle.reed_solomon.specs.Powers.{raised-zero, raised_none, raised_power}
 use Rattle.reed_solomon.specs.ValuesLemmas.{symbols_take, value_at-lt}
 use Rattle.reed_solomon.specs.Division.{word_is}
 use Rattle.reed_solomon.specs.Distance.{word_from_roots, differs_self}
-use Rattle.reed_solomon.proofs.OneWrong.{OneError, one_wrong, wrong_first, wrong_step, Mends, mended}
+use Rattle.reed_solomon.proofs.OneWrong.{OneError, one_wrong, wrong_first, wrong_step, length-changed, symbols_changed, differs-changed}
 use Rattle.reed_solomon.specs.GeneratorsLemmas.{generator_is}
 
 -- a message of the code with r roots and k symbols whose word is within one place of the symbols given
@@ -25,7 +25,7 @@ take-set-below (suc k) (x ∷ xs) zero y h = refl
 take-set-below (suc k) (x ∷ xs) (suc i) y h = ap (λ (ys : List ℕ). x ∷ ys) (take-set-below k xs i y (omega arith))
 
 -- the values stay 0 where the first is 0
-roots_from_steps : (r : ℕ) (cs : List ℕ) (p : ℕ) → value_at 1 cs ≡ 0 → StepsBy r cs p → Roots r cs
+pub roots_from_steps : (r : ℕ) (cs : List ℕ) (p : ℕ) → value_at 1 cs ≡ 0 → StepsBy r cs p → Roots r cs
 roots_from_steps r cs p first step zero h l = absurd (omega arith)
 roots_from_steps r cs p first step (suc zero) h l = first
 roots_from_steps r cs p first step (suc (suc j)) h l =
@@ -57,14 +57,12 @@ module _ (r : ℕ) (given : List ℕ) (two : 2 ≤ r) (short : length given ≤ 
           near = near;
         }
 
-    pub none_wrong : value_at 1 given ≡ 0 → StepsBy r given 0 → Near r k given (take k given) 0
-    none_wrong first step = from_roots given 0 refl below (roots_from_steps r given 0 first step) (differs_self given) (omega arith)
+    pub none_wrong : Roots r given → Near r k given (take k given) 0
+    none_wrong roots = from_roots given 0 refl below roots (differs_self given) (omega arith)
 
-    pub one_mended : (p : ℕ) → p < length given → 0 < value_at 1 given → StepsBy r given p
-        → Near r k given (take k (changed given p (raised (127 - p) (value_at 1 given)))) 1
-    one_mended p h some step =
-        let m : Mends r given p (raised (127 - p) (value_at 1 given)) = mended r given p h short below some step in
-        from_roots (changed given p (raised (127 - p) (value_at 1 given))) 1 m.size m.symbols m.roots m.places (omega arith)
+    pub one_mended : (p e : ℕ) → p < length given → 0 < e → e < 128 → Roots r (changed given p e) → Near r k given (take k (changed given p e)) 1
+    one_mended p e h some symbol roots =
+        from_roots (changed given p e) 1 (length-changed given p e) (symbols_changed given p e below symbol) roots (differs-changed given p e h some) (omega arith)
 
     -- a word within reach has the given values, or one wrong symbol gives them
     reached : {A : Type 0} (m : List ℕ) (e : ℕ) → Near r k given m e → (Roots r given → A) → (OneError r given → A) → A
