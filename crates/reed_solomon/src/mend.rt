@@ -45,15 +45,7 @@ impl<const ROOTS: usize, const MESSAGE: usize, const WORD: usize> ReedSolomon<
         ensures { MatchBool result (StepsBy ROOTS given.entry.coefficients.now place) (StepsBy ROOTS given.entry.coefficients.now place → ⊥) }
     {
         let step = power(place);
-        let mut value = given.value_at(1);
-        for j in 1..ROOTS {
-            let next = given.value_at(j + 1);
-            if next != product(value, step) {
-                return false;
-            }
-            value = next;
-        }
-        true
+        (1..ROOTS).all(|j| given.value_at(j + 1) == product(given.value_at(j), step))
     }
 
     // The place, counted from the end, of the one wrong symbol that gives the values at the roots.
