@@ -66,6 +66,14 @@ module _ (k : ℕ) {R : Type 0} (record_bits : R → List Bool) (record-size : (
       let same = distant (message_of k (record_bits sent)) (message_of k (record_bits other)) (message_size_lem sent) (message_size_lem other) (message-below sent) (message-below other) few in
       only other (sym (one_record (message_of k (record_bits other)) other refl) ∙ one_record (message_of k (record_bits other)) sent (sym same))
 
+-- what is found on the way to an answer
+module _ (k n : ℕ) (word : List ℕ → List ℕ) (reach : ℕ) (decided : Cell → List Bool) {R : Type 0} (record_bits : R → List Bool) (read_bits : List Bool → Result R BadRecord) where
+  abbrev pub Found : List Cell → Result (Reading R) StreamFault → Type 0
+  Found cells (Ok got) = (m : List ℕ) × StreamWithin k n word reach decided cells m got.mended × ReadsBits record_bits (record_of m) (Ok got.stated)
+  Found cells (Err (Reach f)) = (m : List ℕ) (e : ℕ) → StreamWithin k n word reach decided cells m e → ⊥
+  Found cells (Err (Record f)) =
+      (m : List ℕ) × (e : ℕ) × StreamWithin k n word reach decided cells m e × (read_bits (record_of m) ≡ Err f) × ReadsBits record_bits (record_of m) (Err f)
+
 module _ (k n : ℕ) (word : List ℕ → List ℕ) (distance reach : ℕ) (point : List Bool → Cell) (decided : Cell → List Bool) (width : ℕ)
     {R : Type 0} (record_bits : R → List Bool) (read_bits : List Bool → Result R BadRecord)
     (record-size : (r : R) → length (record_bits r) ≡ k * 7)
@@ -95,7 +103,7 @@ module _ (k n : ℕ) (word : List ℕ → List ℕ) (distance reach : ℕ) (poin
 
   module _ (cells : List Cell) (count : ℕ) (room : n * 7 ≤ width * count) where
     -- where no word is within reach nothing was sent
-    pub none_sent : (f : BeyondReach) → ((m : List ℕ) (e : ℕ) → StreamWithin k n word reach decided cells m e → ⊥)
+    none_sent : (f : BeyondReach) → ((m : List ℕ) (e : ℕ) → StreamWithin k n word reach decided cells m e → ⊥)
         → ReadsBack k n word reach decided record_bits read_bits point width count cells (Err (Reach f))
     none_sent f none sent near moved close = absurd (none (message_of k (record_bits sent)) _ (sent_within count room sent near cells moved close))
 
@@ -105,21 +113,32 @@ module _ (k n : ℕ) (word : List ℕ → List ℕ) (distance reach : ℕ) (poin
           → wrong_symbols decided n near cells ≤ reach → (r ≡ Ok sent) × (e ≡ wrong_symbols decided n near cells)
       read_as_sent sent near moved close =
           let w = sent_within count room sent near cells moved close in
-          let same = only cells m (message_of k (record_bits sent)) e _ got w in
-          ((exactly sent).1 (one_record k record_bits record-size m sent same),
-          sym got.places ∙ ap (λ l. differing (λ (x : ℕ). x) (word l) (symbols_of decided n cells)) same ∙ w.places)
+          let same = only cells m (message_of k (record_bits sent)) e _ got w in (
+            (exactly sent).1 (one_record k record_bits record-size m sent same),
+            sym got.places ∙ ap (λ l. differing (λ (x : ℕ). x) (word l) (symbols_of decided n cells)) same ∙ w.places,
+          )
 
-    pub good_sent : (m : List ℕ) (e : ℕ) → StreamWithin k n word reach decided cells m e → (x : R) → ReadsBits record_bits (record_of m) (Ok x)
+    good_sent : (m : List ℕ) (e : ℕ) → StreamWithin k n word reach decided cells m e → (x : R) → ReadsBits record_bits (record_of m) (Ok x)
         → ReadsBack k n word reach decided record_bits read_bits point width count cells (Ok (record { stated = x; mended = e }))
     good_sent m e got x exactly sent near moved close =
         let both = read_as_sent m e got (Ok x) exactly sent near moved close in
         let same : x ≡ sent = Ok-one x sent both.0 in
         ap (λ y. Ok (record { stated = y; mended = e })) same ∙ ap (λ i. Ok (record { stated = sent; mended = i })) both.1
 
-    pub bad_sent : (m : List ℕ) (e : ℕ) → StreamWithin k n word reach decided cells m e → (f : BadRecord) → ReadsBits record_bits (record_of m) (Err f)
+    bad_sent : (m : List ℕ) (e : ℕ) → StreamWithin k n word reach decided cells m e → (f : BadRecord) → ReadsBits record_bits (record_of m) (Err f)
         → ReadsBack k n word reach decided record_bits read_bits point width count cells (Err (Record f))
     bad_sent m e got f exactly sent near moved close =
         let both = read_as_sent m e got (Err f) exactly sent near moved close in
         let bad = both.0 in
         let z : ◌≡◌ {A = ℕ} 0 1 = cc in
         absurd (omega arith)
+
+  -- an answer by what was found is right, and answers what was sent
+  pub right : (cells : List Cell) (answer : Result (Reading R) StreamFault) → Found k n word reach decided record_bits read_bits cells answer
+      → StreamAnswer k n word reach decided record_bits read_bits cells answer
+      × ((count : ℕ) → n * 7 ≤ width * count → ReadsBack k n word reach decided record_bits read_bits point width count cells answer)
+  right cells (Ok got) f =
+      (stated_within k n word reach decided record_bits cells f.0 (record_of f.0) got.mended got.stated ((f.2 got.stated).0 refl) refl f.1,
+      λ count room. good_sent cells count room f.0 got.mended f.1 got.stated f.2)
+  right cells (Err (Reach b)) f = (f, λ count room. none_sent cells count room b f)
+  right cells (Err (Record b)) f = ((f.0, f.1, f.2, f.3), λ count room. bad_sent cells count room f.0 f.1 f.2 b f.4)

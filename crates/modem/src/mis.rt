@@ -8,7 +8,7 @@ ghost use Rattle.modem.specs.MisStream.{mis_trace, MisAnswer, MisReadsBack};
 use crate::carrying::Reading;
 use crate::fault::StreamFault;
 use crate::stream::{Trace, read_stream, write_stream};
-use cells::{Cell, Constellation, Order};
+use cells::{Cell, Constellation, Modulation, Order};
 use codes::lengths::FixedCode;
 use codes::words::{MendingCode, SendingCode};
 use modes::Mis;
@@ -21,7 +21,11 @@ pub fn write_mis<C: FixedCode<2, 4>, Q: Constellation>(code: &C, points: &Q, mis
     ensures apart { ToldApart mis_record 2 (C.SendingCode.word code.now) (C.SendingCode.distance code.now) mis }
     ensures steps { result ≡ mis_trace (C.SendingCode.word code.now) (Q.Constellation.point points.now Four) mis }
 {
-    write_stream(code, points, Order::Four, mis)
+    let modulation = Modulation {
+        points,
+        order: Order::Four,
+    };
+    write_stream(code, &modulation, mis)
 }
 
 // The three numbers that the cells of a MIS state, and the symbols mended, or what is wrong with it.
@@ -33,5 +37,9 @@ pub fn read_mis<C: FixedCode<2, 4> + MendingCode<Symbol = u8>, Q: Constellation>
     ensures answer { MisAnswer (C.SendingCode.word code.now) (C.MendingCode.reach code.now) (Q.Constellation.decided points.now Four) cells.now result }
     ensures reads_back { MisReadsBack (C.SendingCode.word code.now) (C.MendingCode.reach code.now) (Q.Constellation.decided points.now Four) (Q.Constellation.point points.now Four) cells.now result }
 {
-    read_stream(code, points, Order::Four, cells)
+    let modulation = Modulation {
+        points,
+        order: Order::Four,
+    };
+    read_stream(code, &modulation, cells)
 }

@@ -9,7 +9,7 @@ ghost use Rattle.modem.specs.Stream.{stream_trace};
 use crate::carrying::{Reading, carry, mend_record};
 use crate::fault::StreamFault;
 use bits::{cut, scramble};
-use cells::{Cell, Constellation, Order};
+use cells::{Cell, Constellation, Modulation};
 use codes::lengths::FixedCode;
 use codes::words::{MendingCode, SendingCode};
 use streams::{Record, read_record, write_record};
@@ -33,16 +33,11 @@ pub(crate) fn write_stream<
     const MESSAGE: usize,
     const WORD: usize,
     const CELLS: usize,
->(
-    code: &C,
-    points: &Q,
-    order: Order,
-    stated: R,
-) -> Trace<BITS, MESSAGE, WORD, CELLS>
+>(code: &C, modulation: &Modulation<'_, Q>, stated: R) -> Trace<BITS, MESSAGE, WORD, CELLS>
     requires symbols { BITS ≡ 7 * MESSAGE }
     requires short { WORD ≤ 5120 }
-    requires room { 7 * WORD ≤ cell_bits order * CELLS }
-    ensures steps { result ≡ stream_trace BITS MESSAGE WORD CELLS (λ (r : R). with_check (R.Record.field_bits r)) (C.SendingCode.word code.now) (Q.Constellation.point points.now order) (cell_bits order) stated }
+    requires room { 7 * WORD ≤ cell_bits modulation.now.order * CELLS }
+    ensures steps { result ≡ stream_trace BITS MESSAGE WORD CELLS (λ (r : R). with_check (R.Record.field_bits r)) (C.SendingCode.word code.now) (Q.Constellation.point modulation.now.points.now modulation.now.order) (cell_bits modulation.now.order) stated }
     ensures apart { ToldApart (λ (r : R). with_check (R.Record.field_bits r)) MESSAGE (C.SendingCode.word code.now) (C.SendingCode.distance code.now) stated }
 {
     let record = write_record(stated);
@@ -52,11 +47,8 @@ pub(crate) fn write_stream<
     cut::<7>(&scrambled[..], &mut message[..]);
     let mut word = [0; WORD];
     code.encode(&message[..], &mut word[..]);
-    let mut cells = [Cell {
-        real: 0,
-        imaginary: 0,
-    }; CELLS];
-    carry(points, order, &word[..], &mut cells[..]);
+    let mut cells = [Cell::ORIGIN; CELLS];
+    carry(modulation, &word[..], &mut cells[..]);
     Trace {
         record,
         scrambled,
@@ -75,20 +67,16 @@ pub(crate) fn read_stream<
     const BITS: usize,
     const MESSAGE: usize,
     const WORD: usize,
->(
-    code: &C,
-    points: &Q,
-    order: Order,
-    cells: &[Cell],
-) -> Result<Reading<R>, StreamFault>
+>(code: &C, modulation: &Modulation<'_, Q>, cells: &[Cell]) -> Result<Reading<R>, StreamFault>
     requires symbols { BITS ≡ 7 * MESSAGE }
-    requires room { 7 * WORD ≤ cell_bits order * length cells.now }
-    ensures answer { StreamAnswer MESSAGE WORD (C.SendingCode.word code.now) (C.MendingCode.reach code.now) (Q.Constellation.decided points.now order) (λ (r : R). with_check (R.Record.field_bits r)) (record_read (BITS - 8) R.Record.stated) cells.now result }
-    ensures reads_back { (count : ℕ) → 7 * WORD ≤ cell_bits order * count → ReadsBack MESSAGE WORD (C.SendingCode.word code.now) (C.MendingCode.reach code.now) (Q.Constellation.decided points.now order) (λ (r : R). with_check (R.Record.field_bits r)) (record_read (BITS - 8) R.Record.stated) (Q.Constellation.point points.now order) (cell_bits order) count cells.now result }
+    requires short { BITS ≤ 35840 }
+    requires room { 7 * WORD ≤ cell_bits modulation.now.order * length cells.now }
+    ensures answer { StreamAnswer MESSAGE WORD (C.SendingCode.word code.now) (C.MendingCode.reach code.now) (Q.Constellation.decided modulation.now.points.now modulation.now.order) (λ (r : R). with_check (R.Record.field_bits r)) (record_read (BITS - 8) R.Record.stated) cells.now result }
+    ensures reads_back { (count : ℕ) → 7 * WORD ≤ cell_bits modulation.now.order * count → ReadsBack MESSAGE WORD (C.SendingCode.word code.now) (C.MendingCode.reach code.now) (Q.Constellation.decided modulation.now.points.now modulation.now.order) (λ (r : R). with_check (R.Record.field_bits r)) (record_read (BITS - 8) R.Record.stated) (Q.Constellation.point modulation.now.points.now modulation.now.order) (cell_bits modulation.now.order) count cells.now result }
 {
     let mut message = [0; MESSAGE];
     let mut record = [false; BITS];
-    let mended = mend_record(code, points, order, cells, &mut message[..], &mut record[..])?;
+    let mended = mend_record(code, modulation, cells, &mut message[..], &mut record[..])?;
     let stated = read_record(&record)?;
     Ok(Reading { stated, mended })
 }

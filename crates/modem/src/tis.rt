@@ -7,7 +7,7 @@ ghost use Rattle.modem.specs.TisStream.{tis_order, tis_trace, TisAnswer, TisRead
 use crate::carrying::Reading;
 use crate::fault::StreamFault;
 use crate::stream::{Trace, read_stream, write_stream};
-use cells::{Cell, Constellation, Order};
+use cells::{Cell, Constellation, Modulation, Order};
 use codes::lengths::FixedCode;
 use codes::words::{MendingCode, SendingCode};
 use modes::{Tis, TisConstellation};
@@ -35,7 +35,11 @@ pub fn write_tis<C: FixedCode<9, 29>, Q: Constellation>(
     ensures steps { result ≡ tis_trace (C.SendingCode.word code.now) (Q.Constellation.point points.now) constellation tis }
     ensures apart { ToldApart tis_record 9 (C.SendingCode.word code.now) (C.SendingCode.distance code.now) tis }
 {
-    write_stream(code, points, order_of(constellation), tis)
+    let modulation = Modulation {
+        points,
+        order: order_of(constellation),
+    };
+    write_stream(code, &modulation, tis)
 }
 
 // What the cells of a TIS state, and the symbols mended, or what is wrong with it. At 16-QAM the last 51 cells are ignored.
@@ -48,5 +52,9 @@ pub fn read_tis<C: FixedCode<9, 29> + MendingCode<Symbol = u8>, Q: Constellation
     ensures answer { TisAnswer (C.SendingCode.word code.now) (C.MendingCode.reach code.now) (Q.Constellation.decided points.now) constellation cells.now result }
     ensures reads_back { TisReadsBack (C.SendingCode.word code.now) (C.MendingCode.reach code.now) (Q.Constellation.decided points.now) (Q.Constellation.point points.now) constellation cells.now result }
 {
-    read_stream(code, points, order_of(constellation), cells)
+    let modulation = Modulation {
+        points,
+        order: order_of(constellation),
+    };
+    read_stream(code, &modulation, cells)
 }

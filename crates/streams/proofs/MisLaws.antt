@@ -15,7 +15,8 @@ use Rattle.modes.specs.declared.mode.DataConstellation.{DataConstellation}
 use Rattle.modes.specs.declared.mode.DataConstellation.TheVariants.{Qam4 as DataQam4, Qam16 as DataQam16, Qam64 as DataQam64}
 use Rattle.modes.specs.declared.mode.Mis.{Mis}
 use Rattle.streams.specs.declared.records.BadRecord.{BadRecord}
-use Rattle.bits.proofs.Bits.{field_back, field_below, number_of-bits_of, part_length, take_plus}
+use Rattle.bits.proofs.Bits.{field_back, field_below, number_of-bits_of, part_length}
+use Rattle.std.proofs.Common.{take-add}
 
 -- what has a number is found by it
 numbered_is : {X : Type 0} (number : X → ℕ) (xs : List X) (n : ℕ) (x : X) → numbered number xs n ≡ Ok x → n ≡ number x
@@ -114,9 +115,9 @@ module _ (bits : List Bool) (size : length bits ≡ 6) (m : Mis) (e : mis_stated
         field_back 1 (tis_number m.tis) (take 1 (drop 2 bits)) (part_length bits 2 1 (omega arith)) t,
         field_back 2 (data_number m.«data») (take 2 (drop 3 bits)) (part_length bits 3 2 (omega arith)) d,
         field_back 1 0 (take 1 (drop 5 bits)) (part_length bits 5 1 (omega arith)) fill,
-        take_plus 5 1 bits,
-        take_plus 3 2 bits,
-        take_plus 2 1 bits,
+        take-add 5 1 bits,
+        take-add 3 2 bits,
+        take-add 2 1 bits,
       ) in
       sym whole ∙ sym joined
 

@@ -29,7 +29,7 @@ module _ (fields : List Bool) (size : ℕ) (long : length fields ≡ size) where
   unfolding with_check
   check_back =
       ap number_of (drop_at fields (bits_of 8 (crc8_of fields)) size long)
-      ∙ number_of-bits_of 8 (crc8_of fields) (crc_below 8 29 fields (crc8_of fields) refl)
+      ∙ number_of-bits_of 8 (crc8_of fields) (crc_below 8 29 fields)
 
 pub length-with_check : (fields : List Bool) → length (with_check fields) ≡ length fields + 8
 unfolding with_check

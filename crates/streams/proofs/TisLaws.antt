@@ -17,7 +17,8 @@ use Rattle.streams.specs.declared.records.BadRecord.{BadRecord}
 use Rattle.modes.specs.declared.station.Station.{Station}
 use Rattle.modes.specs.declared.station.Tis.{Tis}
 use Rattle.std.proofs.lemmas.List.{take_all}
-use Rattle.bits.proofs.Bits.{field_back, field_below, number_of-bits_of, part_length, take_plus}
+use Rattle.bits.proofs.Bits.{field_back, field_below, number_of-bits_of, part_length}
+use Rattle.std.proofs.Common.{take-add}
 use Rattle.streams.proofs.MisLaws.{data_found, occupancy_found}
 
 -- what was made where a test holds
@@ -148,11 +149,11 @@ module _ (bits : List Bool) (size : length bits ≡ 55) (t : Tis) (e : tis_state
         field_back 6 s.minute (take 6 (drop 40 bits)) (part_length bits 40 6 (omega arith)) numbers.2,
         field_back 6 s.duration (take 6 (drop 46 bits)) (part_length bits 46 6 (omega arith)) numbers.3,
         field_back 3 0 (take 3 (drop 52 bits)) (part_length bits 52 3 (omega arith)) (eqb-true (field_at 52 3 bits) 0 stated_good),
-        take_plus 52 3 bits,
-        take_plus 46 6 bits,
-        take_plus 40 6 bits,
-        take_plus 35 5 bits,
-        take_plus 5 30 bits,
+        take-add 52 3 bits,
+        take-add 46 6 bits,
+        take-add 40 6 bits,
+        take-add 35 5 bits,
+        take-add 5 30 bits,
       ) in
       sym whole ∙ sym joined
 
