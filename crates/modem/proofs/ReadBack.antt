@@ -137,8 +137,9 @@ module _ (k n : ℕ) (word : List ℕ → List ℕ) (distance reach : ℕ) (poin
   pub right : (cells : List Cell) (answer : Result (Reading R) StreamFault) → Found k n word reach decided record_bits read_bits cells answer
       → StreamAnswer k n word reach decided record_bits read_bits cells answer
       × ((count : ℕ) → n * 7 ≤ width * count → ReadsBack k n word reach decided record_bits read_bits point width count cells answer)
-  right cells (Ok got) f =
-      (stated_within k n word reach decided record_bits cells f.0 (record_of f.0) got.mended got.stated ((f.2 got.stated).0 refl) refl f.1,
-      λ count room. good_sent cells count room f.0 got.mended f.1 got.stated f.2)
+  right cells (Ok got) f = (
+    stated_within k n word reach decided record_bits cells f.0 (record_of f.0) got.mended got.stated ((f.2 got.stated).0 refl) refl f.1,
+    λ count room. good_sent cells count room f.0 got.mended f.1 got.stated f.2,
+  )
   right cells (Err (Reach b)) f = (f, λ count room. none_sent cells count room b f)
   right cells (Err (Record b)) f = ((f.0, f.1, f.2, f.3), λ count room. bad_sent cells count room f.0 f.1 f.2 b f.4)

@@ -4,14 +4,11 @@ use Rattle.cells.specs.Cells.{cell_bits}
 use Rattle.cells.specs.declared.cell.Cell.{Cell}
 use Rattle.cells.specs.declared.cell.Order.{Order}
 use Rattle.codes.specs.declared.words.BeyondReach.{BeyondReach}
-use Rattle.streams.specs.Records.{ReadsBits, record_read, with_check}
-use Rattle.streams.specs.declared.records.BadRecord.{BadRecord}
+use Rattle.streams.specs.Records.{record_read, with_check}
 use Rattle.streams.proofs.RecordLaws.{length-with_check}
-use Rattle.modem.specs.Carrying.{record_of}
-use Rattle.modem.specs.Reading.{RecordMended, ReadsBack, StreamAnswer, StreamWithin}
+use Rattle.modem.specs.Reading.{RecordMended, ReadsBack, StreamAnswer}
 use Rattle.modem.specs.declared.carrying.Reading.{Reading}
 use Rattle.modem.specs.declared.fault.StreamFault.{StreamFault}
-use Rattle.modem.specs.declared.fault.StreamFault.TheVariants.{Reach, Record}
 use Rattle.modem.proofs.ReadBack.{Found, mended_sizes, right}
 use Rattle.modem.proofs.stream.read_stream.Given as given
 use Rattle.modem.proofs.stream.read_stream.Goals as goal

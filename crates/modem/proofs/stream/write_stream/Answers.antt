@@ -1,4 +1,4 @@
-use Rattle.std.proofs.Common.{◌≡◌, ◌*◌, ◌-◌, length, take, sym, ap, ◌∙◌, arith}
+use Rattle.std.proofs.Common.{◌-◌, take, sym, ap, ◌∙◌, arith}
 use Rattle.bits.proofs.Bits.{cut-below_128}
 use Rattle.streams.specs.Records.{with_check}
 use Rattle.streams.proofs.RecordLaws.{fields_front, length-with_check}
