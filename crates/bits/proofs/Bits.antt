@@ -17,7 +17,7 @@ unfolding bits_of
 length-bits_of zero v = refl
 length-bits_of (suc w) v = ap suc (length-bits_of w v)
 
-pub number-below : (b : Bool) → bit_number b < 2
+number-below : (b : Bool) → bit_number b < 2
 number-below true = lit< tt
 number-below false = lit< tt
 
@@ -49,7 +49,7 @@ field_below place w bits =
     omega (arith, number_of-below part)
 
 -- w bits hold a number up to multiples of 2 ^ w
-pub number_of-bits_of-mod : (w v : ℕ) → number_of (bits_of w v) ≡ v % 2 ^ w
+number_of-bits_of-mod : (w v : ℕ) → number_of (bits_of w v) ≡ v % 2 ^ w
 unfolding number_of bits_of
 number_of-bits_of-mod zero v = sym (mod-one v)
 number_of-bits_of-mod (suc w) v =
@@ -63,7 +63,7 @@ odd_bit c true = rw (mul-add-mod_self_right c 2 1)
 odd_bit c false = rw (mul-add-mod_self_right c 2 0)
 
 -- the bits of bs come back whatever stands above them
-pub bits_of-above : (bs : List Bool) (c : ℕ) → bits_of (length bs) (c * 2 ^ length bs + number_of bs) ≡ bs
+bits_of-above : (bs : List Bool) (c : ℕ) → bits_of (length bs) (c * 2 ^ length bs + number_of bs) ≡ bs
 unfolding number_of bits_of
 bits_of-above [] c = refl
 bits_of-above (b ∷ bs) c =
@@ -95,7 +95,7 @@ one_more m n p b some h =
     rw (mod-eq_of_lt small, bool_byte_number b) (or_shifted n 1 (bit_number b) (number-below b))
 
 -- reading bits behind a number
-pub number_from : (m n : ℕ) (bs : List Bool) → (n + 1) * 2 ^ length bs ≤ m → fold (λ k b. bit_or (k * 2 ^ 1 % m) (bool_byte b)) n bs ≡ n * 2 ^ length bs + number_of bs
+number_from : (m n : ℕ) (bs : List Bool) → (n + 1) * 2 ^ length bs ≤ m → fold (λ k b. bit_or (k * 2 ^ 1 % m) (bool_byte b)) n bs ≡ n * 2 ^ length bs + number_of bs
 unfolding number_of
 number_from m n [] h = omega arith
 number_from m n (b ∷ bs) h =
@@ -122,7 +122,7 @@ length-spread w (x ∷ xs) =
     rw (length-append (bits_of w x) (spread w xs), length-bits_of w x, length-spread w xs, suc-mul (length xs) w) (omega arith)
 
 -- cutting gives back what was spread, whatever follows
-pub cut-spread_more : (w : ℕ) (xs : List ℕ) (more : List Bool) → AllBelow (2 ^ w) xs → cut w (length xs) (spread w xs ++ more) ≡ xs
+cut-spread_more : (w : ℕ) (xs : List ℕ) (more : List Bool) → AllBelow (2 ^ w) xs → cut w (length xs) (spread w xs ++ more) ≡ xs
 unfolding cut spread
 cut-spread_more w [] more h = refl
 cut-spread_more w (x ∷ xs) more h =
@@ -160,7 +160,7 @@ unfolding Below128
 below_128 [] h = tt
 below_128 (x ∷ xs) h = (h.0, below_128 xs h.1)
 
-pub from_below_128 : (xs : List ℕ) → Below128 (λ x. x) xs → AllBelow 128 xs
+from_below_128 : (xs : List ℕ) → Below128 (λ x. x) xs → AllBelow 128 xs
 unfolding Below128
 from_below_128 [] h = tt
 from_below_128 (x ∷ xs) h = (h.0, from_below_128 xs h.1)
@@ -172,14 +172,14 @@ pub cut-spread_128 : (xs : List ℕ) (more : List Bool) → Below128 (λ x. x) x
 cut-spread_128 xs more h = cut-spread_more 7 xs more (from_below_128 xs h)
 
 -- one number more at the end
-pub cut_push : (w n : ℕ) (bs : List Bool) → cut w (n + 1) bs ≡ cut w n bs ++ number_of (take w (drop (n * w) bs)) ∷ []
+cut_push : (w n : ℕ) (bs : List Bool) → cut w (n + 1) bs ≡ cut w n bs ++ number_of (take w (drop (n * w) bs)) ∷ []
 unfolding cut
 cut_push w zero bs = rw zero-mul
 cut_push w (suc n) bs =
     rw (add-one, suc-mul n w, add_comm (n * w) w, ← drop-drop (n * w) w bs)
     (ap (λ l. number_of (take w bs) ∷ l) (rw add-one at (cut_push w n (drop w bs))))
 
-pub spread_push : (w : ℕ) (xs : List ℕ) (x : ℕ) → spread w (xs ++ x ∷ []) ≡ spread w xs ++ bits_of w x
+spread_push : (w : ℕ) (xs : List ℕ) (x : ℕ) → spread w (xs ++ x ∷ []) ≡ spread w xs ++ bits_of w x
 unfolding spread
 spread_push w [] x = append-nil (bits_of w x)
 spread_push w (y ∷ ys) x = rw (spread_push w ys x, append_assoc)
@@ -197,14 +197,19 @@ cut_more w bs entry xs i h e =
       append_assoc,
     )
 
+-- one part more, written behind what is written
+pub put_more : {X : Type 0} (front entry now part more : List X) (a k b : ℕ) → length front ≡ a → a + k ≡ b → now ≡ front ++ drop a entry → part ≡ more →
+    put_mid a k now part ≡ front ++ more ++ drop b entry
+put_more front entry now part more a k b size end e same =
+    rw (e, same, take_at front (drop a entry) a size, drop_at front (drop a entry) a size, drop-drop k a entry, end, append_assoc)
+
 -- one field more, written behind what is written
 pub field_more : (front entry bits part : List Bool) (a k v n : ℕ) → length front ≡ a → a + k ≤ length entry → bits ≡ front ++ drop a entry →
     part ≡ bits_of (length (take k (drop a bits))) n → n ≡ v → put_mid a k bits part ≡ front ++ bits_of k v ++ drop (a + k) entry
 field_more front entry bits part a k v n size room e p same =
     let rest : drop a bits ≡ drop a entry = rw e (drop_at front (drop a entry) a size) in
-    let long : length (take k (drop a entry)) ≡ k = simp (length-take, length-drop) (omega arith) in
-    let written : part ≡ bits_of k v = rw (rest, long, same) at p in
-    rw (rest, written, e, take_at front (drop a entry) a size, drop-drop k a entry, append_assoc)
+    let long : length (take k (drop a entry)) ≡ k = part_length entry a k room in
+    put_more front entry bits part (bits_of k v) a k (a + k) size refl e (rw (rest, long, same) at p)
 
 -- one number more, written over its bits
 pub spread_more : (w : ℕ) (xs : List ℕ) (entry bits part : List Bool) (i n : ℕ) → i < length xs → w * i + w ≤ length entry →

@@ -23,7 +23,7 @@ number-times-below : (f : Bool) (p m : ℕ) → p < m → bit_number f * p < m
 number-times-below true p m h = rw one-mul h
 number-times-below false p m h = omega arith
 
-pub stepped-below : (w p register : ℕ) (b : Bool) → p < 2 ^ w → stepped w p register b < 2 ^ w
+stepped-below : (w p register : ℕ) (b : Bool) → p < 2 ^ w → stepped w p register b < 2 ^ w
 stepped-below w p register b h =
     xor_lt w (register * 2 % 2 ^ w) (bit_number (feedback w register b) * p) (mod-lt (register * 2) (pow_pos w))
     (number-times-below (feedback w register b) p (2 ^ w) h)

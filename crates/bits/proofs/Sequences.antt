@@ -67,7 +67,7 @@ scrambling bs =
     }
 
 -- one bit more at the end
-pub scrambled_push : (n : ℕ) (bs : List Bool) (b : Bool) → scrambled n (bs ++ b ∷ []) ≡ scrambled n bs ++ (b ⊕ following (earlier (n + length bs))) ∷ []
+scrambled_push : (n : ℕ) (bs : List Bool) (b : Bool) → scrambled n (bs ++ b ∷ []) ≡ scrambled n bs ++ (b ⊕ following (earlier (n + length bs))) ∷ []
 unfolding scrambled
 scrambled_push n [] b = rw add-zero
 scrambled_push n (x ∷ xs) b = rw (add-suc n (length xs), ← suc-add n (length xs)) (ap (λ l. (x ⊕ following (earlier n)) ∷ l) (scrambled_push (suc n) xs b))

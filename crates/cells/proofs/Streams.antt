@@ -9,7 +9,7 @@ use Rattle.cells.specs.declared.cell.Cell.{Cell}
 use Rattle.cells.specs.Cells.{Steady}
 use Rattle.cells.specs.Mapping.{decided_bits, filled, mapped, Moved, next_cell}
 
-pub take-append : {X : Type 0} (n : ℕ) (xs ys : List X) → take n (xs ++ ys) ≡ take n xs ++ take (n - length xs) ys
+take-append : {X : Type 0} (n : ℕ) (xs ys : List X) → take n (xs ++ ys) ≡ take n xs ++ take (n - length xs) ys
 take-append zero xs ys = rw zero-sub
 take-append (suc n) [] ys = rw sub-zero
 take-append (suc n) (x ∷ xs) ys =
@@ -21,12 +21,12 @@ written_more front xs i y e h =
     rw (drop_more xs i y, set_at front (get_or xs i y) (drop (i + 1) xs) y i e, append_assoc)
 
 -- a loop that writes one part after the other
-pub part_written : {X : Type 0} (front xs part : List X) (a k : ℕ) → length front ≡ a → put_mid a k (front ++ drop a xs) part ≡ (front ++ part) ++ drop (a + k) xs
+part_written : {X : Type 0} (front xs part : List X) (a k : ℕ) → length front ≡ a → put_mid a k (front ++ drop a xs) part ≡ (front ++ part) ++ drop (a + k) xs
 part_written front xs part a k e =
     rw (take_at front (drop a xs) a e, drop_at front (drop a xs) a e, drop-drop, append_assoc)
 
 -- the first bits of two blocks, where `done` of them stand in the first
-pub take_blocks : (first second : List Bool) (count done part : ℕ) → done ≡ min count (length first) → part ≡ min (length second) (count - done) → take (done + part) (first ++ second) ≡ take done first ++ take part second
+take_blocks : (first second : List Bool) (count done part : ℕ) → done ≡ min count (length first) → part ≡ min (length second) (count - done) → take (done + part) (first ++ second) ≡ take done first ++ take part second
 take_blocks first second count done part d p =
     elim (cases_lt (length first) count) [
       | inl more ↦
@@ -63,12 +63,12 @@ module _ (decided : Cell → List Bool) (width : ℕ) (sized : (x : Cell) → le
       rw (b-is, part_written (take start first) before written start (end - start) front, w-is, whole, decided_more decided cells i d h, both)
 
 module _ (point : List Bool → Cell) (width : ℕ) where
-  pub length-mapped : (count : ℕ) (bits : List Bool) → length (mapped point width count bits) ≡ count
+  length-mapped : (count : ℕ) (bits : List Bool) → length (mapped point width count bits) ≡ count
   unfolding mapped
   length-mapped zero bits = refl
   length-mapped (suc count) bits = ap suc (length-mapped count (drop width bits))
 
-  pub mapped_more : (i : ℕ) (bits : List Bool) → mapped point width (i + 1) bits ≡ mapped point width i bits ++ next_cell point width (drop (width * i) bits) ∷ []
+  mapped_more : (i : ℕ) (bits : List Bool) → mapped point width (i + 1) bits ≡ mapped point width i bits ++ next_cell point width (drop (width * i) bits) ∷ []
   unfolding mapped
   mapped_more zero bits = rw mul-zero
   mapped_more (suc i) bits =
@@ -92,7 +92,7 @@ module _ (point : List Bool → Cell) (width : ℕ) where
       take_rest rest k ∙ ap (λ (n : ℕ). drop n rest) k-is ∙ drop_min width rest ∙ ap (drop width) r-is ∙
       drop-drop width (width * i) bits ∙ ap (λ (n : ℕ). drop n bits) next
 
-  pub length-filled : (bits : List Bool) → length (filled width bits) ≡ width
+  length-filled : (bits : List Bool) → length (filled width bits) ≡ width
   length-filled bits = simp (length-append, length-take, length-replicate) (omega arith)
 
   -- the bits sent in one cell, and what follows them
