@@ -55,6 +55,7 @@ impl<const ROOTS: usize, const MESSAGE: usize, const WORD: usize> ReedSolomon<
     }
 
     // The remainder of the message's division by the generator.
+    #[tactic(auto, using(crate::specs::ValuesLemmas::symbols_at, crate::specs::ValuesLemmas::symbols_zeros, crate::specs::Division::symbols_step, crate::specs::GeneratorsLemmas::generator_is, crate::proofs::Steps::divided_more, crate::proofs::Steps::divided_all))]
     fn remainder(&self, message: &[u8]) -> [u8; ROOTS]
         requires { Symbols message.now }
         ensures { result ≡ divided (generator_of ROOTS) (replicate ROOTS 0) message.now }
