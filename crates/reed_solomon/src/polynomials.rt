@@ -6,6 +6,7 @@ ghost use Rattle.reed_solomon.specs.ValuesLemmas.{symbols_prop};
 use crate::field::{power, product, sum};
 use codes::seven::SevenBit;
 
+// The coefficients, which are symbols.
 #[derive(Clone, Copy)]
 pub(crate) struct Polynomial<'a> {
     coefficients: &'a [u8],
