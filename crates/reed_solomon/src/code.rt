@@ -55,12 +55,12 @@ impl<const ROOTS: usize, const MESSAGE: usize, const WORD: usize> ReedSolomon<
     }
 
     // The remainder of the message's division by the generator.
-    fn remainder(&self, message: &[u8]) -> [u8; ROOTS]
-        requires { Symbols message.now }
-        ensures { result ≡ divided (generator_of ROOTS) (replicate ROOTS 0) message.now }
+    #[tactic(auto, using(crate::specs::ValuesLemmas::symbols_at, crate::specs::ValuesLemmas::symbols_zeros, crate::specs::Division::symbols_step, crate::specs::GeneratorsLemmas::generator_is, crate::proofs::Steps::divided_more, crate::proofs::Steps::divided_all))]
+    fn remainder(&self, message: Polynomial) -> [u8; ROOTS]
+        ensures { result ≡ divided (generator_of ROOTS) (replicate ROOTS 0) message.entry.coefficients.now }
     {
         let mut rest = [0; ROOTS];
-        for symbol in message {
+        for symbol in message.as_slice() {
             rest = self.step(rest, SevenBit::of(*symbol));
         }
         rest
@@ -100,7 +100,7 @@ impl<const ROOTS: usize, const MESSAGE: usize, const WORD: usize> SendingCode
     fn encode(&self, message: &[u8], out: &mut [u8]) {
         let (front, rest) = out.split_at_mut(MESSAGE);
         front.copy_from_slice(message);
-        rest.copy_from_slice(&self.remainder(message));
+        rest.copy_from_slice(&self.remainder(Polynomial::new(message)));
     }
 }
 

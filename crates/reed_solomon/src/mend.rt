@@ -2,7 +2,7 @@
 ghost use Rattle.std.specs.Prelude.{◌≡◌, ℕ, ◌+◌, ◌-◌, ◌<◌, ◌≤◌, List, length, take, MatchBool, MatchOption, MatchResult};
 ghost use Rattle.std.proofs.Common.{arith};
 ghost use Rattle.codes.specs.Mending.{Within};
-ghost use Rattle.reed_solomon.specs.Errors.{StepsBy, changed};
+ghost use Rattle.reed_solomon.specs.Errors.{RootsWith, StepsBy, changed};
 ghost use Rattle.reed_solomon.specs.Generators.{generator_of};
 ghost use Rattle.reed_solomon.specs.Words.{Roots, value_at, word_of};
 
@@ -69,7 +69,7 @@ impl<const ROOTS: usize, const MESSAGE: usize, const WORD: usize> ReedSolomon<
     // The one wrong symbol without which the values at the roots are 0, and none where they are 0.
     fn wrong_symbol(&self, given: Polynomial) -> Result<Option<WrongSymbol>, BeyondReach>
         requires { length given.coefficients.now ≡ WORD }
-        ensures { MatchResult result (λ o. MatchOption o (Roots ROOTS given.entry.coefficients.now) (λ w. (w.place < length given.entry.coefficients.now) × (0 < w.error.number) × Roots ROOTS (changed given.entry.coefficients.now w.place w.error.number))) (λ _. (m : List ℕ) (e : ℕ) → Within (λ x. x) MESSAGE (word_of (generator_of ROOTS)) 1 given.entry.coefficients.now m e → ⊥) }
+        ensures { MatchResult result (λ o. MatchOption o (Roots ROOTS given.entry.coefficients.now) (λ w. RootsWith ROOTS given.entry.coefficients.now w.place w.error.number)) (λ _. (m : List ℕ) (e : ℕ) → Within (λ x. x) MESSAGE (word_of (generator_of ROOTS)) 1 given.entry.coefficients.now m e → ⊥) }
     {
         let first = given.value_at(1);
         if first.number() == 0 {

@@ -6,6 +6,7 @@ ghost use Rattle.reed_solomon.specs.ValuesLemmas.{symbols_prop};
 use crate::field::{power, product, sum};
 use codes::seven::SevenBit;
 
+// The coefficients, which are symbols.
 #[derive(Clone, Copy)]
 pub(crate) struct Polynomial<'a> {
     coefficients: &'a [u8],
@@ -34,6 +35,7 @@ impl<'a> Polynomial<'a> {
     }
 
     // The coefficient at a place from the front, and 0 past the end.
+    #[tactic(auto, using(crate::specs::ValuesLemmas::symbols_at))]
     pub(crate) fn coefficient(self, i: usize) -> SevenBit
         ensures { result.number ≡ slice_index self.entry.coefficients.now i }
     {
@@ -41,6 +43,7 @@ impl<'a> Polynomial<'a> {
     }
 
     // The value at α^j.
+    #[tactic(auto, using(crate::specs::ValuesLemmas::symbols_at, crate::specs::ValuesLemmas::value_at_none))]
     pub(crate) fn value_at(self, j: usize) -> SevenBit
         ensures { result.number ≡ value_at j self.entry.coefficients.now }
     {

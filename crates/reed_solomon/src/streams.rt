@@ -8,11 +8,13 @@ pub type MisReedSolomon = ReedSolomon<2, 2, 4>;
 pub type TisReedSolomon = ReedSolomon<20, 9, 29>;
 
 // (X + α)(X + α^2) = X^2 + 6·X + 8
+#[tactic(auto, unfolding(crate::specs::Field::alpha, crate::specs::Field::raised, crate::specs::Words::added, crate::specs::Generators::generator_of))]
 pub fn mis() -> MisReedSolomon {
     ReedSolomon { generator: [6, 8] }
 }
 
 // (X + α)(X + α^2)…(X + α^20)
+#[tactic(auto, unfolding(crate::specs::Field::alpha, crate::specs::Field::raised, crate::specs::Words::added, crate::specs::Generators::generator_of))]
 pub fn tis() -> TisReedSolomon {
     ReedSolomon {
         generator: [

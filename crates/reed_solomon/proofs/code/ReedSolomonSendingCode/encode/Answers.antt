@@ -10,4 +10,6 @@ returns g c =
     let generator = generator_of g.row.ROOTS in
     let message = c.args.message.now in
     ap₂ ◌++◌ c.copy_from_slice.ensures.after
-    (c.copy_from_slice-2.ensures.after ∙ c.remainder.ensures ∙ ap (λ n. divided generator (replicate n 0) message) (sym (generator_is g.row.ROOTS).size))
+    (c.copy_from_slice-2.ensures.after
+    ∙ rw c.new.ensures at c.remainder.ensures
+    ∙ ap (λ n. divided generator (replicate n 0) message) (sym (generator_is g.row.ROOTS).size))
