@@ -1,6 +1,6 @@
 // Reading a packet from a block.
 ghost use Rattle.std.specs.Prelude.{◌≡◌, ◌*◌, ◌≤◌, length};
-ghost use Rattle.packets.specs.Packets.{all_zero, answered, bad_block, fields_in, packet_in, Reads, wrong_check, wrong_filler, wrong_first, wrong_length, wrong_reserved};
+ghost use Rattle.packets.specs.Packets.{answered, bad_block, fields_in, packet_in, Reads, wrong_check, wrong_filler, wrong_first, wrong_length, wrong_reserved};
 ghost use Rattle.bits.specs.Bits.{spread};
 
 use crate::parts::{BadPacket, Header, LEAST_BLOCK, MOST_BITS, MOST_BLOCK, Packet};
@@ -64,11 +64,9 @@ impl Fields {
     }
 
     fn wrong_filler(self, block: &[u8]) -> bool
-        requires { self.total ≤ length block.now }
         ensures { result ≡ wrong_filler self block.now }
     {
-        let total = self.total;
-        !all_zero(&block[total..])
+        !block.iter().skip(self.total).all(|byte| *byte == 0)
     }
 
     // Whether no sender makes a block with these fields and bits.
@@ -82,17 +80,6 @@ impl Fields {
             || self.wrong_first()
             || self.wrong_filler(block)
     }
-}
-
-fn all_zero(bytes: &[u8]) -> bool
-    ensures { result ≡ all_zero bytes.now }
-{
-    for byte in bytes {
-        if *byte != 0 {
-            return false;
-        }
-    }
-    true
 }
 
 /// The packet that a block holds.
