@@ -1,30 +1,20 @@
 // The message that is collected.
-ghost use Rattle.std.specs.Prelude.{◌≡◌, ◌≤◌, length, vec_len};
-ghost use Rattle.messages.specs.CollectorCalls.{known};
+ghost use Rattle.std.specs.Prelude.{◌≡◌, vec_len};
 
+use crate::piece_length::PieceLength;
+use crate::pieces::Pieces;
 use crate::states::Phase;
 
 mod calls;
 
 #[derive(Drop)]
 pub struct Collector {
-    // bytes of data in a packet
-    piece_length: usize,
+    piece_length: PieceLength,
     phase: Phase,
     // of the message that is collected
     toggle: bool,
-    // which pieces are there, by id
-    there: [bool; 1024],
-    // the id of the last piece, once it is known
-    last: Option<usize>,
-    // the message's length, once its last piece is known
-    total: usize,
-    // each piece stands at its id × piece_length
+    pieces: Pieces,
+    // each piece stands where it begins in the message
     bytes: Vec<u8>,
-    ghost least: { 1 ≤ piece_length },
-    ghost most: { piece_length ≤ 1434 },
-    ghost ids: { length there ≡ 1024 },
-    ghost ends: { known last ≤ 1024 },
-    ghost fits: { total ≤ 16384 },
     ghost room: { vec_len bytes ≡ 16384 },
 }

@@ -1,39 +1,15 @@
 // What a sender does.
-ghost use Rattle.std.specs.Prelude.{◌≡◌, ◌*◌, ◌≤◌, ◌++◌, length, drop, IfOk};
-ghost use Rattle.messages.specs.Pieces.{piece_count, piece};
+ghost use Rattle.std.specs.Prelude.{◌≡◌, IfOk};
 ghost use Rattle.messages.specs.SenderCalls.{new_sender, Loading, Nexting, Clearing};
 ghost use Rattle.messages.specs.Views.{sender_state};
 
 use super::Sender;
+use crate::content::NextPacket;
+use crate::piece_length::PieceLength;
 use crate::states::Progress;
 use packets::Header;
 use refusals::Refusal;
 use std::alloc::{AllocError, Global};
-
-// How many pieces `bytes` bytes make.
-fn piece_count(piece_length: usize, bytes: usize) -> usize
-    requires some { 1 ≤ piece_length }
-    requires length { piece_length ≤ 1434 }
-    requires room { bytes ≤ 16384 }
-    ensures { result ≡ piece_count piece_length bytes }
-{
-    (bytes + piece_length - 1) / piece_length
-}
-
-// Copies piece `id` to the front of `bytes` and answers its length.
-fn write_piece(message: &[u8], piece_length: usize, id: usize, bytes: &mut [u8]) -> usize
-    requires most { piece_length ≤ 1434 }
-    requires room { length message.now ≤ 16384 }
-    requires starts { id * piece_length ≤ length message.now }
-    requires space { piece_length ≤ length bytes.old }
-    ensures answer { result ≡ length (piece piece_length message.now id) }
-    ensures copied { bytes.new ≡ piece piece_length message.now id ++ drop result bytes.old }
-{
-    let start = id * piece_length;
-    let length = piece_length.min(message.len() - start);
-    bytes[0..length].copy_from_slice(&message[start..start + length]);
-    length
-}
 
 impl Sender {
     // A sender of packets with `piece_length` bytes of data, 1 to 1434.
@@ -42,7 +18,7 @@ impl Sender {
     {
         Ok(Sender {
             message: Vec::with_capacity(heap, 16384)?,
-            piece_length: piece_length.min(1434).max(1),
+            piece_length: PieceLength::clamped(piece_length),
             toggle: true,
             progress: Progress::Idle,
         })
@@ -54,10 +30,10 @@ impl Sender {
         let Progress::Idle = self.progress else {
             return Err(Refusal::MessageLoaded);
         };
-        if message.len() == 0 || message.len() > 16384 {
+        if message.is_empty() || message.len() > 16384 {
             return Err(Refusal::MessageLength);
         }
-        if piece_count(self.piece_length, message.len()) > 1024 {
+        if self.piece_length.count(message.len()) > 1024 {
             return Err(Refusal::TooManyPieces);
         }
         self.message.clear();
@@ -67,31 +43,28 @@ impl Sender {
     }
 
     // The next packet: its data goes to the front of `bytes`.
-    pub fn next(&mut self, bytes: &mut [u8; 1434]) -> Result<(Header, usize), Refusal>
+    pub fn next(&mut self, bytes: &mut [u8; 1434]) -> Result<NextPacket, Refusal>
         ensures { Nexting (sender_state self.old) (sender_state self.new) bytes.old bytes.new result }
     {
-        if !self.progress.is_loaded() {
-            return Err(Refusal::NothingLoaded);
-        }
-        let count = piece_count(self.piece_length, self.message.len());
-        let id = self.progress.piece();
-        let length = write_piece(self.message.as_slice(), self.piece_length, id, bytes);
+        let id = self.progress.piece().ok_or(Refusal::NothingLoaded)?;
+        let count = self.piece_length.count(self.message.len());
+        let length = self
+            .piece_length
+            .write_piece(self.message.as_slice(), id, bytes);
         self.toggle = self.progress.toggled(self.toggle);
         self.progress = Progress::Sending((id + 1) % count);
-        Ok((
-            Header {
-                toggle: self.toggle,
-                last: id + 1 == count,
-                id: id as u16,
-            },
-            length,
-        ))
+        let header = Header {
+            toggle: self.toggle,
+            last: id + 1 == count,
+            id: id as u16,
+        };
+        Ok(NextPacket { header, length })
     }
 
     pub fn clear(&mut self) -> Result<(), Refusal>
         ensures { Clearing (sender_state self.old) (sender_state self.new) result }
     {
-        if !self.progress.is_loaded() {
+        if let Progress::Idle = self.progress {
             return Err(Refusal::NothingLoaded);
         }
         self.message.clear();
