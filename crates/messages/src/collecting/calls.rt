@@ -14,14 +14,6 @@ use packets::Packet;
 use refusals::Refusal;
 use std::alloc::{AllocError, Global};
 
-// Copies `piece` to the place `at`.
-fn write_at(bytes: &mut [u8], at: usize, piece: &[u8])
-    requires { at + length piece.now ≤ length bytes.old }
-    ensures { bytes.new ≡ written bytes.old at piece.now }
-{
-    bytes[at..at + piece.len()].copy_from_slice(piece);
-}
-
 impl Collector {
     // A collector of packets with `piece_length` bytes of data, 1 to 1434.
     pub fn new(heap: Global, piece_length: usize) -> Result<Self, AllocError>
@@ -45,8 +37,9 @@ impl Collector {
     {
         let Packet { header, data } = packet;
         let start = self.piece_length.start(usize::from(header.id));
-        write_at(self.bytes.as_mut_slice(), start, data);
-        self.pieces.add(header, start + data.len());
+        let end = start + data.len();
+        self.bytes[start..end].copy_from_slice(data);
+        self.pieces.add(header, end);
         if self.pieces.none_missing() {
             self.phase = Phase::Complete;
             Placing::Complete
