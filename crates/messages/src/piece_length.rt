@@ -1,5 +1,5 @@
 // How a message is cut.
-ghost use Rattle.std.specs.Prelude.{◌≡◌, ◌+◌, ◌*◌, ◌<◌, ◌≤◌, ◌++◌, length, drop};
+ghost use Rattle.std.specs.Prelude.{◌≡◌, ◌+◌, ◌*◌, ◌≤◌, ◌++◌, length, drop};
 ghost use Rattle.messages.specs.Pieces.{piece_length_of, piece_count, piece};
 ghost use Rattle.messages.specs.CollectorCalls.{wrong_length};
 
@@ -30,16 +30,14 @@ impl PieceLength {
     }
 
     // Where piece `id` begins.
-    pub(crate) fn start(self, id: usize) -> usize
-        requires { id < 1024 }
+    pub(crate) fn start(self, id: u16) -> usize
         ensures { result ≡ id * self.bytes }
     {
-        id * self.bytes
+        usize::from(id) * self.bytes
     }
 
     // Copies piece `id` to the front of `bytes` and answers its length.
-    pub(crate) fn write_piece(self, message: &[u8], id: usize, bytes: &mut [u8]) -> usize
-        requires id { id < 1024 }
+    pub(crate) fn write_piece(self, message: &[u8], id: u16, bytes: &mut [u8]) -> usize
         requires starts { id * self.bytes ≤ length message.now }
         requires space { self.bytes ≤ length bytes.old }
         ensures answer { result ≡ length (piece self.bytes message.now id) }

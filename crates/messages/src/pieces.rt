@@ -8,7 +8,7 @@ use packets::{Header, Packet};
 #[derive(Clone, Copy)]
 pub(crate) struct Ending {
     // of its last piece
-    id: usize,
+    id: u16,
     // the message's length
     total: usize,
     ghost numbered: { id < 1024 },
@@ -57,10 +57,11 @@ impl Pieces {
     pub(crate) fn none_missing(&self) -> bool
         ensures { result ≡ none_missing self.now.there (last_of self.now.ending) }
     {
-        match self.ending {
-            Some(ending) => self.there.iter().take(ending.id + 1).all(|piece| *piece),
-            None => false,
-        }
+        let Some(ending) = self.ending else {
+            return false;
+        };
+        let count = usize::from(ending.id) + 1;
+        self.there.iter().take(count).all(|piece| *piece)
     }
 
     // Whether the packet does not fit beside these pieces.
@@ -68,13 +69,14 @@ impl Pieces {
         ensures { result ≡ misplaced piece_length.bytes self.now.there (last_of self.now.ending) (carried packet.entry) }
     {
         let Packet { header, data } = packet;
-        let id = usize::from(header.id);
-        if piece_length.is_wrong(header.last, data.len()) || id >= 1024 {
+        if piece_length.is_wrong(header.last, data.len()) || header.id >= 1024 {
             return true;
         }
-        piece_length.start(id) + data.len() > 16384
-            || self.ending.is_some_and(|ending| ending.id < id)
-            || header.last && self.there.iter().skip(id + 1).any(|piece| *piece)
+        let end = piece_length.start(header.id) + data.len();
+        let after = usize::from(header.id) + 1;
+        end > 16384
+            || self.ending.is_some_and(|ending| ending.id < header.id)
+            || header.last && self.there.iter().skip(after).any(|piece| *piece)
     }
 
     // Notes a piece whose data ends at `end`.
@@ -85,10 +87,12 @@ impl Pieces {
         ensures last { last_of self.new.ending ≡ (if header.last then Some header.id else last_of self.old.ending) }
         ensures total { total_of self.new.ending ≡ (if header.last then end else total_of self.old.ending) }
     {
-        let id = usize::from(header.id);
-        self.there[id] = true;
+        self.there[usize::from(header.id)] = true;
         if header.last {
-            self.ending = Some(Ending { id, total: end });
+            self.ending = Some(Ending {
+                id: header.id,
+                total: end,
+            });
         }
     }
 }

@@ -8,7 +8,7 @@ pub(crate) enum Progress {
     // loaded, and no packet of it was sent
     Waiting,
     // the piece that comes next
-    Sending(usize),
+    Sending(u16),
 }
 
 #[derive(Clone, Copy)]
@@ -20,7 +20,7 @@ pub(crate) enum Phase {
 
 impl Progress {
     // The piece that comes next, if a message is loaded.
-    pub(crate) fn piece(self) -> Option<usize>
+    pub(crate) fn piece(self) -> Option<u16>
         ensures { result ≡ (if is_loaded self then Some (next_piece self) else None) }
     {
         match self {

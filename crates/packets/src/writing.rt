@@ -20,7 +20,6 @@ fn has_room(packet: Packet<'_>, size: usize) -> bool
 
 // The length of the packet that has these data: 4 bytes of the header before them and 2 of the check behind.
 fn total_length(data: &[u8]) -> usize
-    requires { length «data».now ≤ 1434 }
     ensures value { result ≡ length «data».now + 6 }
     ensures octets { AllBelow 256 «data».now }
 {

@@ -36,7 +36,7 @@ impl Collector {
         ensures state { collector_state self.new ≡ placed (collector_state self.old) (carried packet.entry) }
     {
         let Packet { header, data } = packet;
-        let start = self.piece_length.start(usize::from(header.id));
+        let start = self.piece_length.start(header.id);
         let end = start + data.len();
         self.bytes[start..end].copy_from_slice(data);
         self.pieces.add(header, end);

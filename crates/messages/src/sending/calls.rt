@@ -51,12 +51,13 @@ impl Sender {
         let length = self
             .piece_length
             .write_piece(self.message.as_slice(), id, bytes);
+        let following = usize::from(id) + 1;
         self.toggle = self.progress.toggled(self.toggle);
-        self.progress = Progress::Sending((id + 1) % count);
+        self.progress = Progress::Sending((following % count) as u16);
         let header = Header {
             toggle: self.toggle,
-            last: id + 1 == count,
-            id: id as u16,
+            last: following == count,
+            id,
         };
         Ok(NextPacket { header, length })
     }

@@ -5,10 +5,10 @@ use Rattle.messages.specs.CollectorCalls.{none_missing}
 use Rattle.messages.specs.Endings.{last_of}
 use Rattle.messages.proofs.pieces.Pieces.none_missing.Goals as goal
 
-pub returns-in-Some : goal.returns-in-Some
-returns-in-Some c =
+pub returns : goal.returns
+returns c =
     let there = c.args.self.now.there in
     all_from_yields_List (λ b. b) _ _ c.all.result c.all.ensures.ran
     (YieldsList-from_take (c.in-Some.ending.id + 1) (YieldsList-from_slice c.args.self.now.there cc) (cc))
     (λ x b q k. search (rules, tests))
-    ∙ sym (ap (λ e. none_missing there (last_of e)) c.in-Some.is)
+    ∙ sym (ap (λ e. none_missing c.args.self.now.there (last_of e)) c.in-Some.is)
