@@ -11,11 +11,9 @@ fn has_room(packet: Packet<'_>, size: usize) -> bool
     ensures { result ≡ has_room size packet.entry.header.id (length packet.entry.«data».now) }
 {
     let count = packet.data.len();
-    LEAST_BLOCK <= size
-        && size <= MOST_BLOCK
+    (LEAST_BLOCK..=MOST_BLOCK).contains(&size)
         && packet.header.id < 1024
-        && 1 <= count
-        && count <= size - 6
+        && (1..=size - 6).contains(&count)
 }
 
 // The length of the packet that has these data: 4 bytes of the header before them and 2 of the check behind.

@@ -7,7 +7,6 @@ use Rattle.messages.proofs.pieces.Pieces.none_missing.Goals as goal
 
 pub returns : goal.returns
 returns c =
-    let there = c.args.self.now.there in
     all_from_yields_List (λ b. b) _ _ c.all.result c.all.ensures.ran
     (YieldsList-from_take (c.in-Some.ending.id + 1) (YieldsList-from_slice c.args.self.now.there cc) (cc))
     (λ x b q k. search (rules, tests))
