@@ -54,7 +54,7 @@ impl PieceLength {
         ensures { result ≡ wrong_length self.bytes last length }
     {
         if last {
-            length == 0 || length > self.bytes
+            !(1..=self.bytes).contains(&length)
         } else {
             length != self.bytes
         }

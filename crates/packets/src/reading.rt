@@ -1,5 +1,6 @@
 // Reading a packet from a block.
 ghost use Rattle.std.specs.Prelude.{◌≡◌, ◌*◌, ◌≤◌, length};
+ghost use Rattle.std.specs.Bool.{OnFalse};
 ghost use Rattle.packets.specs.Packets.{answered, bad_block, fields_in, packet_in, Reads, wrong_check, wrong_filler, wrong_first, wrong_length, wrong_reserved, wrong_size};
 ghost use Rattle.bits.specs.Bits.{spread};
 
@@ -74,7 +75,8 @@ impl Fields {
     #[tactic(auto, unfolding(crate::specs::Packets::bad_block))]
     fn is_bad(self, block: &[u8], bits: &[bool]) -> bool
         requires { length bits.now ≡ 8 * length block.now }
-        ensures { result ≡ bad_block self block.now bits.now }
+        ensures value { result ≡ bad_block self block.now bits.now }
+        ensures within { OnFalse result ((7 ≤ self.total) × (self.total ≤ length block.now)) }
     {
         self.wrong_length(block.len())
             || self.wrong_check(bits)

@@ -1,9 +1,9 @@
-use Rattle.std.proofs.Common.{◌≡◌, ◌-◌, ◌≤◌, true, false, length, take, drop, Some, sym, ap, ◌∙◌, arith, rules}
+use Rattle.std.proofs.Common.{◌≡◌, ◌-◌, true, false, length, take, drop, Some, sym, ap, ◌∙◌, arith}
 use Rattle.std.proofs.lemmas.Bool.{or_from, or_left, or_right}
 use Rattle.bits.specs.Bits.{spread}
 use Rattle.bits.proofs.ByteLaws.{below_from}
 use Rattle.packets.specs.Packets.{bad_block, content_of, fields_in, stated, wrong_size}
-use Rattle.packets.proofs.Exact.{bad_none, good_from, good_some, reads_from, size_reads}
+use Rattle.packets.proofs.Exact.{bad_none, good_some, reads_from, size_reads}
 use Rattle.packets.proofs.reading.read_packet.Goals as goal
 
 pub returns-then-wrong_size : goal.returns-then-wrong_size
@@ -15,7 +15,7 @@ returns-then-wrong_size c =
 pub returns-then-is_bad : goal.returns-then-is_bad
 returns-then-is_bad c =
     let block = c.args.block.now in
-    let told = c.if-is_bad.ensures in
+    let told = c.if-is_bad.ensures.value in
     let bad : bad_block (fields_in (spread 8 c.args.block.now)) c.args.block.now (spread 8 c.args.block.now) ≡ true = cc in
     let none = sym (bad_none block (or_right _ _ bad)) in
     record {
@@ -25,29 +25,11 @@ returns-then-is_bad c =
           (sym c.if-wrong_size.ensures) none;
     }
 
-pub overflow_sub-result : goal.overflow_sub-result
-overflow_sub-result c = let g = good_from _ _ _ (sym c.if-is_bad.ensures) in omega (arith, g.least)
-
-pub slice_bounds-result-count : goal.slice_bounds-result-count
-slice_bounds-result-count c = let g = good_from _ _ _ (sym c.if-is_bad.ensures) in omega (arith, g.least)
-
-pub slice_bounds-result-start : goal.slice_bounds-result-start
-slice_bounds-result-start c =
-    let g = good_from _ _ _ (sym c.if-is_bad.ensures) in
-    let least : 7 ≤ c.of-fields.result.total = g.least in
-    search rules
-
-pub slice_bounds-result-end : goal.slice_bounds-result-end
-slice_bounds-result-end c =
-    let g = good_from _ _ _ (sym c.if-is_bad.ensures) in
-    let within : c.of-fields.result.total ≤ length c.args.block.now = g.within in
-    search rules
-
 pub returns : goal.returns
 returns c =
     let block = c.args.block.now in
     let f = c.of-fields.result in
-    let told = c.if-is_bad.ensures in
+    let told = c.if-is_bad.ensures.value in
     let right : wrong_size (length c.args.block.now) ≡ false = sym c.if-wrong_size.ensures in
     let good : bad_block (fields_in (spread 8 c.args.block.now)) c.args.block.now (spread 8 c.args.block.now) ≡ false = cc in
     let fields : f ≡ fields_in (spread 8 c.args.block.now) = c.of-fields.ensures ∙ ap fields_in c.spread_bytes.ensures in
