@@ -7,7 +7,7 @@ use lib.Pow.{mod-pow-add, high}
 use Rattle.std.proofs.lemmas.List.{append_assoc, append-nil, take_more, drop_at, drop-drop, drop_more, set_at, drop-set, length-append, length-drop, length_push, length-take, length-take-le, take_all, take_at}
 use Rattle.std.proofs.lemmas.Bool.{cases_eq, ne_eqb, eq-eqb}
 use Rattle.codes.specs.Symbols.{bit_number, Below128}
-use Rattle.bits.specs.Bits.{AllBelow, bits_of, number_of, cut, spread}
+use Rattle.bits.specs.Bits.{AllBelow, bits_of, number_of, field_at, cut, spread}
 
 pub length-bits_of : (w v : ℕ) → length (bits_of w v) ≡ w
 unfolding bits_of
@@ -32,6 +32,18 @@ number_of-below [] = lit< tt
 number_of-below (b ∷ bs) =
     let h = number_of-below bs in
     rw pow-suc (elim b as (λ c. bit_number c * 2 ^ length bs + number_of bs < 2 ^ length bs * 2) [ true ↦ omega arith | false ↦ omega arith ])
+
+-- a part of the bits has the length that is taken
+pub part_length : (bits : List Bool) (place w : ℕ) → place + w ≤ length bits → length (take w (drop place bits)) ≡ w
+part_length bits place w h = simp (length-take, length-drop) (omega arith)
+
+-- a field fits its width
+pub field_below : (place w : ℕ) (bits : List Bool) → field_at place w bits < 2 ^ w
+field_below place w bits =
+    let part = take w (drop place bits) in
+    let q : length part ≤ w = rw length-take (omega arith) in
+    let p : 2 ^ length part ≤ 2 ^ w = pow_mono q in
+    omega (arith, number_of-below part)
 
 -- w bits hold a number up to multiples of 2 ^ w
 pub number_of-bits_of-mod : (w v : ℕ) → number_of (bits_of w v) ≡ v % 2 ^ w
@@ -62,6 +74,10 @@ bits_of-number_of bs = simp (zero-mul, zero-add) at (bits_of-above bs 0)
 -- a field is written as it was read
 pub field_back : (w n : ℕ) (part : List Bool) → length part ≡ w → number_of part ≡ n → bits_of w n ≡ part
 field_back w n part size e = rw (size, e) at (bits_of-number_of part)
+
+-- a field's number, written again
+pub field_bits : (place w : ℕ) (bits : List Bool) → place + w ≤ length bits → bits_of w (field_at place w bits) ≡ take w (drop place bits)
+field_bits place w bits h = field_back w (field_at place w bits) (take w (drop place bits)) (part_length bits place w h) refl
 
 -- one bit more at the end
 pub number_of_push : (bs : List Bool) (b : Bool) → number_of (bs ++ b ∷ []) ≡ number_of bs * 2 + bit_number b
@@ -145,10 +161,7 @@ spread_cut w (suc n) bs h =
 pub cut_below : (w n : ℕ) (bs : List Bool) → AllBelow (2 ^ w) (cut w n bs)
 unfolding cut
 cut_below w zero bs = tt
-cut_below w (suc n) bs =
-    let q : length (take w bs) ≤ w = rw length-take (omega arith) in
-    let p : 2 ^ length (take w bs) ≤ 2 ^ w = pow_mono q in
-    (omega (arith, number_of-below (take w bs)), cut_below w n (drop w bs))
+cut_below w (suc n) bs = (field_below 0 w bs, cut_below w n (drop w bs))
 
 -- all below 128 are the symbols of seven bits
 pub below_128 : (xs : List ℕ) → AllBelow 128 xs → Below128 (λ x. x) xs

@@ -22,6 +22,10 @@ unfoldable pub number_of : List Bool → ℕ
 number_of [] = 0
 number_of (b ∷ bs) = bit_number b * 2 ^ length bs + number_of bs
 
+-- a field of w bits, from a place on
+abbrev pub field_at : ℕ → ℕ → List Bool → ℕ
+field_at place w bits = number_of (take w (drop place bits))
+
 -- n numbers of w bits each, one after the other; further bits are ignored
 unfoldable pub cut : ℕ → ℕ → List Bool → List ℕ
 cut w zero bs = []

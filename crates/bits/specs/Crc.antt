@@ -25,6 +25,10 @@ crc_of w p bits = 2 ^ w - 1 - registered w p (2 ^ w - 1) bits
 abbrev pub crc8_of : List Bool → ℕ
 crc8_of bits = crc_of 8 29 bits
 
+-- the check of sixteen bits, by x^16 + x^12 + x^5 + 1
+abbrev pub crc16_of : List Bool → ℕ
+crc16_of bits = crc_of 16 4129 bits
+
 -- the product of two polynomials, the first by its coefficients, the highest first
 unfoldable pub times : List Bool → ℕ → ℕ
 times [] g = 0

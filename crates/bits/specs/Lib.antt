@@ -1,4 +1,3 @@
 pub mod Bits
 pub mod Crc
-pub mod Crc16
 pub mod Scrambling

@@ -1,20 +1,20 @@
 // Cyclic redundancy checks over bits.
 ghost use Rattle.std.specs.Prelude.{◌≡◌, ◌-◌, ◌^◌, ◌<◌, ◌≤◌};
-ghost use Rattle.bits.specs.Crc.{crc8_of, crc_of, IsRemainder, stepped};
+ghost use Rattle.bits.specs.Crc.{crc8_of, crc16_of, crc_of, IsRemainder, stepped};
 
 // The generator x^width + polynomial: the bit of 2^k in `polynomial` is the coefficient of x^k.
 #[derive(Clone, Copy)]
 pub struct Generator {
     pub width: u32,
     pub polynomial: u32,
+    ghost degree: { width ≤ 31 },
+    ghost lower: { polynomial < 2 ^ width },
 }
 
 impl Generator {
     // The register after one bit more.
     fn step(self, register: u32, bit: bool) -> u32
-        requires degree { self.width ≤ 31 }
-        requires lower { self.polynomial < 2 ^ self.width }
-        requires within { register < 2 ^ self.width }
+        requires { register < 2 ^ self.width }
         ensures { result ≡ stepped self.width self.polynomial register bit }
     {
         let span = 1u32 << self.width;
@@ -29,8 +29,6 @@ impl Generator {
 
     // The check of `bits`: the register starts from all ones and is inverted at the end.
     pub fn crc(self, bits: &[bool]) -> u32
-        requires degree { self.width ≤ 31 }
-        requires lower { self.polynomial < 2 ^ self.width }
         ensures value { result ≡ crc_of self.width self.polynomial bits.now }
         ensures remainder { IsRemainder self.width self.polynomial bits.now (2 ^ self.width - 1 - result) }
     {
@@ -49,10 +47,24 @@ const GENERATOR_8: Generator = Generator {
     polynomial: 0b1_1101,
 };
 
+// x^16 + x^12 + x^5 + 1
+const GENERATOR_16: Generator = Generator {
+    width: 16,
+    polynomial: 0x1021,
+};
+
 // The check of eight bits over `bits`.
 pub fn crc8(bits: &[bool]) -> u8
     ensures value { result ≡ crc8_of bits.now }
     ensures remainder { IsRemainder 8 29 bits.now (255 - result) }
 {
     GENERATOR_8.crc(bits) as u8
+}
+
+/// The check of sixteen bits over `bits`.
+pub fn crc16(bits: &[bool]) -> u16
+    ensures value { result ≡ crc16_of bits.now }
+    ensures remainder { IsRemainder 16 4129 bits.now (65535 - result) }
+{
+    GENERATOR_16.crc(bits) as u16
 }

@@ -1,7 +1,9 @@
 -- Laws of the count of differing places. Assumes nothing.
-use Rattle.std.proofs.Common.{◌≡◌, ℕ, ◌+◌, ◌-◌, ◌<◌, ◌≤◌, min, max, eqb, List, [], ◌∷◌, length, get_or, drop, sym, refl, ap, ◌∙◌, ⊎_elim, arith}
-use Rattle.std.proofs.lemmas.List.{drop_more, drop_all, length-drop}
-use Rattle.std.proofs.lemmas.Bool.{cases_lt, cases_Bool, cond_both, cond-true, cond-false, eqb-true, eqb-false, eq-eqb}
+use Rattle.std.proofs.Common.{◌≡◌, ℕ, ◌+◌, ◌-◌, ◌≤◌, eqb, List, [], ◌∷◌, length, sym, refl, ◌∙◌, ⊎_elim, arith, rules}
+use Rattle.std.proofs.lemmas.List.Sums.{sum_by-cons}
+use Rattle.std.proofs.lemmas.Bool.{cases_Bool, cond_both, cond-true, cond-false, eqb-true, eqb-false, eq-eqb}
+use Rattle.std.specs.Prelude.{cond, not, ◌==◌, count_by, zip}
+use Rattle.std.proofs.lemmas.Bool.Decides.{nat_tests}
 use Rattle.codes.specs.Symbols.{apart, differing}
 
 pub apart-le : (a b : ℕ) → apart a b ≤ 1
@@ -30,18 +32,13 @@ apart_between a b c =
     (λ f. omega (arith, cond-false {A = ℕ} (eqb a b) 0 1 f, apart-le a c))
     (cases_Bool (eqb a b))
 
+apart_not : (a b : ℕ) → apart a b ≡ cond (not (a == b)) 1 0
+apart_not a b = search (rules, nat_tests)
+
 module _ {S : Type 0} (number : S → ℕ) where
   cons-apart : (x y : S) (xs ys : List S) → differing number (x ∷ xs) (y ∷ ys) ≡ apart (number x) (number y) + differing number xs ys
   unfolding differing
   cons-apart x y xs ys = refl
-
-  -- the place i, and the places behind it
-  pub differing_more : (xs ys : List S) (i : ℕ) (x y : S) → i < length xs → i < length ys → x ≡ get_or xs i x → y ≡ get_or ys i y
-      → differing number (drop i xs) (drop i ys) ≡ apart (number x) (number y) + differing number (drop (i + 1) xs) (drop (i + 1) ys)
-  differing_more xs ys i x y h k p q =
-      let p' : drop i xs ≡ x ∷ drop (i + 1) xs = drop_more xs i x h ∙ ap (λ z. z ∷ drop (i + 1) xs) (sym p) in
-      let q' : drop i ys ≡ y ∷ drop (i + 1) ys = drop_more ys i y k ∙ ap (λ z. z ∷ drop (i + 1) ys) (sym q) in
-      rw (p', q') (cons-apart x y (drop (i + 1) xs) (drop (i + 1) ys))
 
   nil_left : (ys : List S) → differing number [] ys ≡ length ys
   unfolding differing
@@ -52,13 +49,11 @@ module _ {S : Type 0} (number : S → ℕ) where
   nil_right [] = refl
   nil_right (x ∷ xs) = refl
 
-  -- past the end of the shorter list, only the longer one has places
-  pub differing_rest : (xs ys : List S) (n : ℕ) → n ≡ min (length xs) (length ys) → differing number (drop n xs) (drop n ys) ≡ max (length xs) (length ys) - n
-  differing_rest xs ys n e =
-      ⊎_elim
-      (λ h. let k : length xs ≤ n = omega arith in rw (drop_all n xs k) (nil_left (drop n ys) ∙ length-drop n ys ∙ omega arith))
-      (λ h. let k : length ys ≤ n = omega arith in rw (drop_all n ys k) (nil_right (drop n xs) ∙ length-drop n xs ∙ omega arith))
-      (cases_lt (length xs) (length ys))
+  -- the places that both lists have, and those that only the longer one has
+  pub differing_pairs : (xs ys : List S) → differing number xs ys ≡ count_by (λ p. not (number p.0 == number p.1)) (zip xs ys) + ((length xs - length ys) + (length ys - length xs))
+  differing_pairs [] ys = omega (arith, nil_left ys)
+  differing_pairs (x ∷ xs) [] = omega (arith, nil_right (x ∷ xs))
+  differing_pairs (x ∷ xs) (y ∷ ys) = omega (arith, cons-apart x y xs ys, apart_not (number x) (number y), sum_by-cons (λ p. cond (not (number p.0 == number p.1)) 1 0) (x, y) (zip xs ys), differing_pairs xs ys)
 
   pub differing_sym : (xs ys : List S) → differing number xs ys ≡ differing number ys xs
   differing_sym [] ys = nil_left ys ∙ sym (nil_right ys)

@@ -3,16 +3,9 @@ ghost use Rattle.std.specs.Prelude.{◌≡◌};
 
 use crate::words::SendingCode;
 
-// A code for the MIS: two symbols to four.
-pub trait MisCode: SendingCode<Symbol = u8> {
-    ghost two: { (c : Self) → Self.SendingCode.message_length c ≡ 2 };
+// A code of seven-bit symbols with words of one length: MESSAGE symbols to WORD.
+pub trait FixedCode<const MESSAGE: usize, const WORD: usize>: SendingCode<Symbol = u8> {
+    ghost message: { (c : Self) → Self.SendingCode.message_length c ≡ MESSAGE };
 
-    ghost four: { (c : Self) → Self.SendingCode.word_length c ≡ 4 };
-}
-
-// A code for the TIS: nine symbols to twenty-nine.
-pub trait TisCode: SendingCode<Symbol = u8> {
-    ghost nine: { (c : Self) → Self.SendingCode.message_length c ≡ 9 };
-
-    ghost twenty_nine: { (c : Self) → Self.SendingCode.word_length c ≡ 29 };
+    ghost word: { (c : Self) → Self.SendingCode.word_length c ≡ WORD };
 }

@@ -1,7 +1,7 @@
 // A single seven-bit symbol. In arrays and slices symbols lie plain; this type carries the bound.
 ghost use Rattle.std.specs.Prelude.{◌≡◌, ◌<◌, ◌≤◌, cond, MatchOption};
 
-#[derive(Clone, Copy)]
+#[derive(Clone, Copy, PartialEq, Eq, Debug)]
 pub struct SevenBit {
     number: u8,
     ghost below: { number < 128 },

@@ -1,6 +1,6 @@
 // Kinds of symbols, told apart by their numbers, and the places in which two runs of them differ.
-ghost use Rattle.std.specs.Prelude.{◌≡◌, ℕ, ◌<◌, Bool, cond, Some, None};
-ghost use Rattle.codes.specs.Symbols.{apart, bit_number, differing};
+ghost use Rattle.std.specs.Prelude.{◌≡◌, ℕ, ◌<◌, ◌≤◌, ◌==◌, Bool, cond, not, Some, None, length, min, count_by, zip};
+ghost use Rattle.codes.specs.Symbols.{bit_number, differing};
 ghost use Rattle.std.proofs.Common.{rules};
 
 // A kind of symbol. Its meaning is the symbol's number, by which symbols of the kind are told apart.
@@ -30,25 +30,25 @@ impl Symbol for bool {
     ghost told_apart = { Prim.search rules };
 
     fn to_number(self) -> u8 {
-        if self { 1 } else { 0 }
+        u8::from(self)
     }
 }
 
-// 1 where two symbols differ, else 0.
-fn differs<S: Symbol>(x: S, y: S) -> usize
-    ensures { result ≡ apart (S.number x) (S.number y) }
+// In how many of the places that both runs have their symbols differ.
+fn count_apart<S: Symbol>(a: &[S], b: &[S]) -> usize
+    ensures places { result ≡ count_by (λ p. not (S.number p.0 == S.number p.1)) (zip a.now b.now) }
+    ensures few { result ≤ min (length a.now) (length b.now) }
 {
-    if x.to_number() == y.to_number() { 0 } else { 1 }
+    a.iter()
+        .zip(b)
+        .filter(|(x, y)| x.to_number() != y.to_number())
+        .count()
 }
 
 // In how many places two runs of symbols differ; a place that only one of them has counts too.
+#[tactic(auto, using(crate::proofs::Differing::differing_pairs))]
 pub fn count_differing<S: Symbol>(a: &[S], b: &[S]) -> usize
     ensures { result ≡ differing S.number a.now b.now }
 {
-    let shared = a.len().min(b.len());
-    let mut count = 0;
-    for i in 0..shared {
-        count += differs(a[i], b[i]);
-    }
-    count + (a.len().max(b.len()) - shared)
+    count_apart(a, b) + a.len().abs_diff(b.len())
 }

@@ -1,11 +1,12 @@
 -- The mode of a frame by its numbers.
-use Rattle.std.specs.Prelude.{ℕ, ◌+◌, ◌*◌, cond, List, [], ◌∷◌, Some, None, Option, ◌==◌}
+use Rattle.std.specs.Prelude.{ℕ, ◌+◌, ◌*◌, cond, List, [], ◌∷◌, Ok, Err, Result, ◌==◌}
 use Rattle.modes.specs.declared.mode.Occupancy.{Occupancy}
 use Rattle.modes.specs.declared.mode.Occupancy.TheVariants.{Khz1, Khz3, Khz5, Khz10}
 use Rattle.modes.specs.declared.mode.TisConstellation.{TisConstellation}
 use Rattle.modes.specs.declared.mode.TisConstellation.TheVariants.{Qam4 as TisQam4, Qam16 as TisQam16}
 use Rattle.modes.specs.declared.mode.DataConstellation.{DataConstellation}
 use Rattle.modes.specs.declared.mode.DataConstellation.TheVariants.{Qam4 as DataQam4, Qam16 as DataQam16, Qam64 as DataQam64}
+use Rattle.modes.specs.declared.unknown.UnknownNumber.{UnknownNumber}
 use Rattle.modes.specs.declared.rate.Rate.{Rate}
 use Rattle.modes.specs.declared.rate.Rate.TheVariants.{Half, ThreeQuarters}
 
@@ -28,20 +29,20 @@ data_number DataQam16 = 1
 data_number DataQam64 = 2
 
 -- which of some values has a number, if one has
-abbrev pub numbered : {X : Type 0} → (X → ℕ) → List X → ℕ → Option X
-numbered number [] n = None
-numbered number (x ∷ xs) n = cond (n == number x) (Some x) (numbered number xs n)
+abbrev pub numbered : {X : Type 0} → (X → ℕ) → List X → ℕ → Result X UnknownNumber
+numbered number [] n = Err (record {})
+numbered number (x ∷ xs) n = cond (n == number x) (Ok x) (numbered number xs n)
 
 -- which occupancy has a number
-abbrev pub occupancy_of : ℕ → Option Occupancy
+abbrev pub occupancy_of : ℕ → Result Occupancy UnknownNumber
 occupancy_of n = numbered occupancy_number (Khz1 ∷ Khz3 ∷ Khz5 ∷ Khz10 ∷ []) n
 
 -- which constellation of the TIS stream has a number
-abbrev pub tis_of : ℕ → Option TisConstellation
+abbrev pub tis_of : ℕ → Result TisConstellation UnknownNumber
 tis_of n = numbered tis_number (TisQam4 ∷ TisQam16 ∷ []) n
 
 -- which constellation of the data stream has a number
-abbrev pub data_of : ℕ → Option DataConstellation
+abbrev pub data_of : ℕ → Result DataConstellation UnknownNumber
 data_of n = numbered data_number (DataQam4 ∷ DataQam16 ∷ DataQam64 ∷ []) n
 
 -- the numbers of the rates of the data stream's code
@@ -50,7 +51,7 @@ rate_number Half = 0
 rate_number ThreeQuarters = 1
 
 -- which rate has a number
-abbrev pub rate_of : ℕ → Option Rate
+abbrev pub rate_of : ℕ → Result Rate UnknownNumber
 rate_of n = numbered rate_number (Half ∷ ThreeQuarters ∷ []) n
 
 -- the data coding: occupancy, data constellation and rate in one number of five bits

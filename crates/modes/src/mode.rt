@@ -2,6 +2,8 @@
 ghost use Rattle.modes.specs.Modes.{data_number, data_of, occupancy_number, occupancy_of, tis_number, tis_of};
 ghost use Rattle.std.specs.Prelude.{◌≡◌};
 
+use crate::unknown::UnknownNumber;
+
 // The bandwidth that a frame occupies.
 #[derive(Clone, Copy, PartialEq, Eq, Debug)]
 pub enum Occupancy {
@@ -34,71 +36,86 @@ pub struct Mis {
     pub data: DataConstellation,
 }
 
-impl Occupancy {
-    pub fn number(self) -> u8
-        ensures { result ≡ occupancy_number self }
-    {
-        match self {
+// The number of an occupancy.
+impl From<Occupancy> for u8 {
+    ghost from_gives = { λ x n. n ≡ occupancy_number x };
+
+    fn from(occupancy: Occupancy) -> u8 {
+        match occupancy {
             Occupancy::Khz1 => 0,
             Occupancy::Khz3 => 1,
             Occupancy::Khz5 => 2,
             Occupancy::Khz10 => 3,
         }
     }
+}
 
-    pub fn from_number(number: u32) -> Option<Self>
-        ensures { result ≡ occupancy_of number }
-    {
+impl TryFrom<u32> for Occupancy {
+    type Error = UnknownNumber;
+
+    ghost try_from_gives = { λ n r. r ≡ occupancy_of n };
+
+    fn try_from(number: u32) -> Result<Self, UnknownNumber> {
         match number {
-            0 => Some(Occupancy::Khz1),
-            1 => Some(Occupancy::Khz3),
-            2 => Some(Occupancy::Khz5),
-            3 => Some(Occupancy::Khz10),
-            _ => None,
+            0 => Ok(Occupancy::Khz1),
+            1 => Ok(Occupancy::Khz3),
+            2 => Ok(Occupancy::Khz5),
+            3 => Ok(Occupancy::Khz10),
+            _ => Err(UnknownNumber),
         }
     }
 }
 
-impl TisConstellation {
-    pub fn number(self) -> u8
-        ensures { result ≡ tis_number self }
-    {
-        match self {
+// The number of a constellation of the TIS stream.
+impl From<TisConstellation> for u8 {
+    ghost from_gives = { λ x n. n ≡ tis_number x };
+
+    fn from(constellation: TisConstellation) -> u8 {
+        match constellation {
             TisConstellation::Qam4 => 0,
             TisConstellation::Qam16 => 1,
         }
     }
+}
 
-    pub fn from_number(number: u32) -> Option<Self>
-        ensures { result ≡ tis_of number }
-    {
+impl TryFrom<u32> for TisConstellation {
+    type Error = UnknownNumber;
+
+    ghost try_from_gives = { λ n r. r ≡ tis_of n };
+
+    fn try_from(number: u32) -> Result<Self, UnknownNumber> {
         match number {
-            0 => Some(TisConstellation::Qam4),
-            1 => Some(TisConstellation::Qam16),
-            _ => None,
+            0 => Ok(TisConstellation::Qam4),
+            1 => Ok(TisConstellation::Qam16),
+            _ => Err(UnknownNumber),
         }
     }
 }
 
-impl DataConstellation {
-    pub fn number(self) -> u8
-        ensures { result ≡ data_number self }
-    {
-        match self {
+// The number of a constellation of the data stream.
+impl From<DataConstellation> for u8 {
+    ghost from_gives = { λ x n. n ≡ data_number x };
+
+    fn from(constellation: DataConstellation) -> u8 {
+        match constellation {
             DataConstellation::Qam4 => 0,
             DataConstellation::Qam16 => 1,
             DataConstellation::Qam64 => 2,
         }
     }
+}
 
-    pub fn from_number(number: u32) -> Option<Self>
-        ensures { result ≡ data_of number }
-    {
+impl TryFrom<u32> for DataConstellation {
+    type Error = UnknownNumber;
+
+    ghost try_from_gives = { λ n r. r ≡ data_of n };
+
+    fn try_from(number: u32) -> Result<Self, UnknownNumber> {
         match number {
-            0 => Some(DataConstellation::Qam4),
-            1 => Some(DataConstellation::Qam16),
-            2 => Some(DataConstellation::Qam64),
-            _ => None,
+            0 => Ok(DataConstellation::Qam4),
+            1 => Ok(DataConstellation::Qam16),
+            2 => Ok(DataConstellation::Qam64),
+            _ => Err(UnknownNumber),
         }
     }
 }

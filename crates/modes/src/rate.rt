@@ -3,6 +3,7 @@ ghost use Rattle.modes.specs.Modes.{data_coding, rate_number, rate_of};
 ghost use Rattle.std.specs.Prelude.{◌≡◌};
 
 use crate::mode::{DataConstellation, Occupancy};
+use crate::unknown::UnknownNumber;
 
 // The rate of the code of the data stream.
 #[derive(Clone, Copy, PartialEq, Eq, Debug)]
@@ -11,23 +12,28 @@ pub enum Rate {
     ThreeQuarters,
 }
 
-impl Rate {
-    pub fn number(self) -> u8
-        ensures { result ≡ rate_number self }
-    {
-        match self {
+// The number of a rate.
+impl From<Rate> for u8 {
+    ghost from_gives = { λ x n. n ≡ rate_number x };
+
+    fn from(rate: Rate) -> u8 {
+        match rate {
             Rate::Half => 0,
             Rate::ThreeQuarters => 1,
         }
     }
+}
 
-    pub fn from_number(number: u32) -> Option<Self>
-        ensures { result ≡ rate_of number }
-    {
+impl TryFrom<u32> for Rate {
+    type Error = UnknownNumber;
+
+    ghost try_from_gives = { λ n r. r ≡ rate_of n };
+
+    fn try_from(number: u32) -> Result<Self, UnknownNumber> {
         match number {
-            0 => Some(Rate::Half),
-            1 => Some(Rate::ThreeQuarters),
-            _ => None,
+            0 => Ok(Rate::Half),
+            1 => Ok(Rate::ThreeQuarters),
+            _ => Err(UnknownNumber),
         }
     }
 }
@@ -36,5 +42,5 @@ impl Rate {
 pub fn data_coding(occupancy: Occupancy, data: DataConstellation, rate: Rate) -> u8
     ensures { result ≡ data_coding occupancy «data» rate }
 {
-    occupancy.number() * 8 + data.number() * 2 + rate.number()
+    u8::from(occupancy) * 8 + u8::from(data) * 2 + u8::from(rate)
 }

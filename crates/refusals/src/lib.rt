@@ -4,8 +4,10 @@
 ghost use Rattle.std.specs.Prelude.{◌≡◌};
 ghost use Rattle.refusals.specs.Refusals.{refusal_number};
 
+use modes::Mis;
+
 // The cases stand in the order of their numbers, from 1.
-#[derive(Clone, Copy, Debug)]
+#[derive(Clone, Copy, PartialEq, Eq, Debug)]
 pub enum Refusal {
     ModeOutOfRange,
     PlanLength,
@@ -27,8 +29,8 @@ pub enum Refusal {
     SliceLength,
     MisBeyondReach,
     BadMis,
-    // occupancy, TIS and data constellation that the MIS names
-    OtherMode(u8, u8, u8),
+    // what the MIS states
+    OtherMode(Mis),
     TisBeyondReach,
     BadTis,
     OtherDataCoding,
@@ -40,12 +42,12 @@ pub enum Refusal {
     FewBytes,
 }
 
-impl Refusal {
-    // The number that the refusal is known by.
-    pub fn number(self) -> u8
-        ensures { result ≡ refusal_number self }
-    {
-        match self {
+// The number that a refusal is known by.
+impl From<Refusal> for u8 {
+    ghost from_gives = { λ refusal n. n ≡ refusal_number refusal };
+
+    fn from(refusal: Refusal) -> u8 {
+        match refusal {
             Refusal::ModeOutOfRange => 1,
             Refusal::PlanLength => 2,
             Refusal::PlanByte(_) => 3,
@@ -64,7 +66,7 @@ impl Refusal {
             Refusal::SliceLength => 16,
             Refusal::MisBeyondReach => 17,
             Refusal::BadMis => 18,
-            Refusal::OtherMode(_, _, _) => 19,
+            Refusal::OtherMode(_) => 19,
             Refusal::TisBeyondReach => 20,
             Refusal::BadTis => 21,
             Refusal::OtherDataCoding => 22,

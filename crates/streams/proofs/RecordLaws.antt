@@ -1,11 +1,14 @@
 -- Laws of records: fields one after the other, and behind them their check of eight bits.
-use Rattle.std.proofs.Common.{◌≡◌, ℕ, ◌+◌, ◌^◌, ◌<◌, ◌≤◌, Bool, false, List, ◌++◌, length, take, drop, replicate, sym, ap, ◌∙◌, arith, pow_mono}
+use Rattle.std.proofs.Common.{◌≡◌, ℕ, ◌+◌, ◌^◌, ◌<◌, ◌≤◌, Bool, true, false, eqb, List, ◌++◌, length, take, drop, is_err, Ok, Err, Result, sym, refl, ap, ◌∙◌, arith, pow_mono}
 use borrow.Rule.Slice.PartMut.{put_mid}
 use Rattle.std.proofs.lemmas.List.{append-nil, drop_all, drop_at, length-append, length-drop, length-take, take_all, take-append-drop, take_at}
-use Rattle.bits.specs.Bits.{bits_of}
+use Rattle.std.proofs.lemmas.Bool.{eq-eqb, false≢true, ne_eqb}
+use Rattle.bits.specs.Bits.{bits_of, number_of}
 use Rattle.bits.specs.Crc.{crc8_of}
-use Rattle.streams.specs.Mis.{field_at}
-use Rattle.bits.proofs.Bits.{field_back, field_more, number_of-below}
+use Rattle.streams.specs.Records.{ReadsBits, field_at, record_read, with_check}
+use Rattle.streams.specs.declared.records.BadRecord.{BadRecord}
+use Rattle.bits.proofs.Bits.{field_back, field_more, length-bits_of, number_of-below, number_of-bits_of}
+use Rattle.bits.proofs.Remainders.{crc_below}
 
 -- a part of the bits has the length that is taken
 pub part_length : (bits : List Bool) (a w : ℕ) → a + w ≤ length bits → length (take w (drop a bits)) ≡ w
@@ -19,27 +22,81 @@ field_below bits a w =
     omega (arith, number_of-below (take w (drop a bits)))
 
 -- bits are the fields and their check where the check is right
-pub check_right : (bits fields : List Bool) (size : ℕ) → length bits ≡ size + 8 → fields ≡ take size bits → field_at size 8 bits ≡ crc8_of (take size bits) →
-    bits ≡ fields ++ bits_of 8 (crc8_of fields)
+check_right : (bits fields : List Bool) (size : ℕ) → length bits ≡ size + 8 → take size bits ≡ fields → number_of (drop size bits) ≡ crc8_of (take size bits) →
+    bits ≡ with_check fields
+unfolding with_check
 check_right bits fields size long e right =
-    let rest : take 8 (drop size bits) ≡ drop size bits = take_all 8 (drop size bits) (simp length-drop (omega arith)) in
-    let check = field_back 8 (crc8_of (take size bits)) (take 8 (drop size bits)) (part_length bits size 8 (omega arith)) right in
-    rw (e, check, rest) (sym (take-append-drop size bits))
+    let long_check : length (drop size bits) ≡ 8 = simp length-drop (omega arith) in
+    let check = field_back 8 (crc8_of (take size bits)) (drop size bits) long_check right in
+    rw (sym e, check) (sym (take-append-drop size bits))
 
--- the fields are written before eight bits
-module _ (fields front : List Bool) (size : ℕ) (long : length fields ≡ size) (e : front ≡ fields) where
-  pub room_before : (n : ℕ) → n ≤ size + 8 → n ≤ length (front ++ replicate 8 false)
-  room_before n h = omega (arith, length-append front (replicate 8 false), ap length e)
+-- the parts of a record
+module _ (fields : List Bool) (size : ℕ) (long : length fields ≡ size) where
+  fields_front : take size (with_check fields) ≡ fields
+  unfolding with_check
+  fields_front = take_at fields (bits_of 8 (crc8_of fields)) size long
 
-  -- and then the check behind them
-  pub check_written : (part : List Bool) (check n : ℕ) → check ≡ crc8_of (take size (front ++ replicate 8 false)) →
-      part ≡ bits_of (length (take 8 (drop size (front ++ replicate 8 false)))) n → n ≡ check →
-      put_mid size 8 (front ++ replicate 8 false) part ≡ fields ++ bits_of 8 (crc8_of fields)
-  check_written part check n crc p same =
-      let all = length-append front (replicate 8 false) in
-      let sized : length front ≡ size = ap length e ∙ long in
-      let value : check ≡ crc8_of fields = crc ∙ ap crc8_of (take_at front (replicate 8 false) size sized ∙ e) in
-      let made = field_more front (front ++ replicate 8 false) (front ++ replicate 8 false) part size 8 (crc8_of fields) n sized (omega arith)
-      (ap (λ l. front ++ l) (sym (drop_at front (replicate 8 false) size sized))) p (same ∙ value) in
-      let none = drop_all (size + 8) (front ++ replicate 8 false) (omega arith) in
-      made ∙ (ap (λ l. front ++ bits_of 8 (crc8_of fields) ++ l) none ∙ (append-nil (front ++ bits_of 8 (crc8_of fields)) ∙ ap (λ l. l ++ bits_of 8 (crc8_of fields)) e))
+  check_back : number_of (drop size (with_check fields)) ≡ crc8_of fields
+  unfolding with_check
+  check_back =
+      ap number_of (drop_at fields (bits_of 8 (crc8_of fields)) size long)
+      ∙ number_of-bits_of 8 (crc8_of fields) (crc_below 8 29 fields (crc8_of fields) refl)
+
+-- reading a record answers what is stated exactly where the bits are its record, when reading its fields does
+module _ {R : Type 0} (fields : R → List Bool) (stated : List Bool → Result R BadRecord) (size : ℕ) (bits : List Bool) (long : length bits ≡ size + 8) where
+  -- a record of these bits has so many bits of fields
+  fields_sized : (x : R) → bits ≡ with_check (fields x) → length (fields x) ≡ size
+  unfolding with_check
+  fields_sized x is =
+      let both : length bits ≡ length (fields x) + 8 = ap length is ∙ length-append (fields x) (bits_of 8 (crc8_of (fields x))) ∙ ap (λ n. length (fields x) + n) (length-bits_of 8 (crc8_of (fields x))) in
+      omega arith
+
+  pub record_refused : (number_of (drop size bits) ≡ crc8_of (take size bits) → ⊥) → Err (record {}) ≡ record_read size stated bits
+  unfolding record_read
+  record_refused wrong = rw (ne_eqb (number_of (drop size bits)) (crc8_of (take size bits)) wrong)
+
+  pub record_taken : number_of (drop size bits) ≡ crc8_of (take size bits) → stated (take size bits) ≡ record_read size stated bits
+  unfolding record_read
+  record_taken right = rw (eq-eqb (number_of (drop size bits)) (crc8_of (take size bits)) right)
+
+  pub refused_exactly : (number_of (drop size bits) ≡ crc8_of (take size bits) → ⊥) → ReadsBits (λ (x : R). with_check (fields x)) bits (Err (record {}))
+  refused_exactly wrong x =
+      (λ is. let z : ◌≡◌ {A = ℕ} 0 1 = cc in absurd (omega arith),
+      λ is.
+        let sized = fields_sized x is in
+        absurd (wrong (ap (λ l. number_of (drop size l)) is ∙ check_back (fields x) size sized ∙ ap crc8_of (sym (fields_front (fields x) size sized) ∙ ap (take size) (sym is)))))
+
+  pub taken_exactly : (r : Result R BadRecord) → number_of (drop size bits) ≡ crc8_of (take size bits) →
+      ReadsBits fields (take size bits) r → ReadsBits (λ (x : R). with_check (fields x)) bits r
+  taken_exactly r right exactly x =
+      (λ is. check_right bits (fields x) size long ((exactly x).0 is) right,
+      λ is. (exactly x).1 (ap (take size) is ∙ fields_front (fields x) size (fields_sized x is)))
+
+-- the fields stand before eight bits, and then their check is written there
+pub check_written : (fields front tail part : List Bool) (size check n : ℕ) → length fields ≡ size → front ≡ fields → length tail ≡ 8 →
+    check ≡ crc8_of (take size (front ++ tail)) → part ≡ bits_of (length (take 8 (drop size (front ++ tail)))) n → n ≡ check →
+    put_mid size 8 (front ++ tail) part ≡ with_check fields
+unfolding with_check
+check_written fields front tail part size check n long e eight crc p same =
+    let all = length-append front tail in
+    let sized : length front ≡ size = ap length e ∙ long in
+    let value : check ≡ crc8_of fields = crc ∙ ap crc8_of (take_at front tail size sized ∙ e) in
+    let made = field_more front (front ++ tail) (front ++ tail) part size 8 (crc8_of fields) n sized (omega arith)
+    (ap (λ l. front ++ l) (sym (drop_at front tail size sized))) p (same ∙ value) in
+    let none = drop_all (size + 8) (front ++ tail) (omega arith) in
+    made ∙ (ap (λ l. front ++ bits_of 8 (crc8_of fields) ++ l) none ∙ (append-nil (front ++ bits_of 8 (crc8_of fields)) ∙ ap (λ l. l ++ bits_of 8 (crc8_of fields)) e))
+
+-- fields from which what they state comes back tell it apart
+pub told_by_fields : {R : Type 0} (fields : R → List Bool) (stated : List Bool → Result R BadRecord) → ((x : R) → stated (fields x) ≡ Ok x) →
+    (a b : R) → fields a ≡ fields b → a ≡ b
+told_by_fields {R = R} fields stated back a b e =
+    let p = back a in
+    let q = back b in
+    let f = ap stated e in
+    let same : ◌≡◌ {A = Result R BadRecord} (Ok a) (Ok b) = cc in
+    cc
+
+-- there is one way for a record to be bad
+pub error_is : {R : Type 0} (r : Result R BadRecord) → is_err r ≡ true → r ≡ Err (record {})
+error_is (Ok t) e = absurd (false≢true e)
+error_is (Err b) e = refl

@@ -1,15 +1,14 @@
 -- A reader of TIS records answers what a TIS states exactly where the bits are its record.
-use Rattle.std.proofs.Common.{◌≡◌, ℕ, ◌<◌, Bool, true, false, not, ◌&&◌, eqb, ltb, leb, List, length, take, drop, is_err, Some, None, Ok, Err, Option, Result, sym, refl, ap, ◌∙◌, inl, inr, arith, lit<}
+use Rattle.std.proofs.Common.{◌≡◌, ℕ, ◌<◌, Bool, true, false, not, ◌&&◌, eqb, ltb, leb, List, ◌++◌, length, take, drop, is_err, Some, None, Ok, Err, Option, Result, sym, refl, ap, ◌∙◌, inl, inr, arith, lit<}
 use native.Mathlib.Bridge.{le_prop}
 use Rattle.std.specs.Option.{ok_or}
-use Rattle.std.proofs.lemmas.Bool.{and_from, cases_Bool, eq-eqb, eqb-true, false≢true, le-leb, lt-ltb, ltb-true, not-false, or_parts}
+use Rattle.std.proofs.lemmas.Bool.{and_from, cases_Bool, eq-eqb, eqb-true, false≢true, le-leb, lt-ltb, ltb-true, ne_eqb}
 use Rattle.bits.specs.Bits.{bits_of}
-use Rattle.bits.specs.Crc.{crc8_of}
-use Rattle.streams.specs.Mis.{field_at}
+use Rattle.streams.specs.Records.{ReadsBits, field_at}
 use Rattle.modes.specs.Station.{Allowed}
 use Rattle.modes.specs.Stations.{allowed?, checked, is_allowed, station_of, tis_made}
 use Rattle.modes.specs.Modes.{data_coding, rate_number}
-use Rattle.streams.specs.Tis.{ReadsTis, tis_bad, tis_fields, tis_read, tis_record}
+use Rattle.streams.specs.Tis.{tis_fields, tis_stated}
 use Rattle.modes.specs.declared.mode.Occupancy.{Occupancy}
 use Rattle.modes.specs.declared.mode.DataConstellation.{DataConstellation}
 use Rattle.modes.specs.declared.rate.Rate.{Rate}
@@ -17,10 +16,10 @@ use Rattle.modes.specs.declared.rate.Rate.TheVariants.{Half, ThreeQuarters}
 use Rattle.streams.specs.declared.records.BadRecord.{BadRecord}
 use Rattle.modes.specs.declared.station.Station.{Station}
 use Rattle.modes.specs.declared.station.Tis.{Tis}
+use Rattle.std.proofs.lemmas.List.{take_all}
 use Rattle.bits.proofs.Bits.{field_back, number_of-bits_of, take_plus}
 use Rattle.streams.proofs.MisLaws.{data_found, occupancy_found}
-use Rattle.streams.proofs.RecordLaws.{check_right, field_below, part_length}
-use Rattle.bits.proofs.Remainders.{crc_below}
+use Rattle.streams.proofs.RecordLaws.{field_below, part_length}
 
 -- what was made where a test holds
 checked_is : {X : Type 0} (test : Bool) (make : test ≡ true → X) (x : X) → test ≡ true → ((e : test ≡ true) → make e ≡ x) → checked test make ≡ Some x
@@ -84,146 +83,113 @@ tis_parts k (Some s) t e =
     (ap (λ (x : Tis). x.coding) made, ap (λ (x : Tis). Some x.station) made)
 
 -- what bits state, by their fields
-read_as : (bits : List Bool) (t : Tis) → tis_bad bits ≡ false → field_at 0 5 bits ≡ t.coding → field_at 5 30 bits ≡ t.station.number →
-    field_at 35 5 bits ≡ t.station.hour → field_at 40 6 bits ≡ t.station.minute → field_at 46 6 bits ≡ t.station.duration → tis_read bits ≡ Ok t
-unfolding tis_read
-read_as bits t good k n h m d =
+stated_as : (bits : List Bool) (t : Tis) → field_at 52 3 bits ≡ 0 → field_at 0 5 bits ≡ t.coding → field_at 5 30 bits ≡ t.station.number →
+    field_at 35 5 bits ≡ t.station.hour → field_at 40 6 bits ≡ t.station.minute → field_at 46 6 bits ≡ t.station.duration → tis_stated bits ≡ Ok t
+unfolding tis_stated
+stated_as bits t good k n h m d =
     let made : tis_made (field_at 0 5 bits) (station_of (field_at 5 30 bits) (field_at 35 5 bits) (field_at 40 6 bits) (field_at 46 6 bits)) ≡ Some t =
     rw (k, n, h, m, d, station_made t.station) (tis_made_lem t) in
     rw (good, made)
 
--- the fields of a record
+-- the fields of what is stated
 module _ (t : Tis) where
-  coding_field : field_at 0 5 (tis_record t) ≡ t.coding
-  unfolding tis_record tis_fields bits_of
+  coding_field : field_at 0 5 (tis_fields t) ≡ t.coding
+  unfolding tis_fields bits_of
   coding_field = number_of-bits_of 5 t.coding t.below
 
-  number_field : field_at 5 30 (tis_record t) ≡ t.station.number
-  unfolding tis_record tis_fields bits_of
+  number_field : field_at 5 30 (tis_fields t) ≡ t.station.number
+  unfolding tis_fields bits_of
   number_field = number_of-bits_of 30 t.station.number (omega (arith, t.station.allowed.0))
 
-  hour_field : field_at 35 5 (tis_record t) ≡ t.station.hour
-  unfolding tis_record tis_fields bits_of
+  hour_field : field_at 35 5 (tis_fields t) ≡ t.station.hour
+  unfolding tis_fields bits_of
   hour_field = number_of-bits_of 5 t.station.hour (omega (arith, t.station.allowed.1))
 
-  minute_field : field_at 40 6 (tis_record t) ≡ t.station.minute
-  unfolding tis_record tis_fields bits_of
+  minute_field : field_at 40 6 (tis_fields t) ≡ t.station.minute
+  unfolding tis_fields bits_of
   minute_field = number_of-bits_of 6 t.station.minute (omega (arith, t.station.allowed.2))
 
-  duration_field : field_at 46 6 (tis_record t) ≡ t.station.duration
-  unfolding tis_record tis_fields bits_of
+  duration_field : field_at 46 6 (tis_fields t) ≡ t.station.duration
+  unfolding tis_fields bits_of
   duration_field = number_of-bits_of 6 t.station.duration (omega (arith, t.station.allowed.3))
 
-  reserved_field : field_at 52 3 (tis_record t) ≡ 0
-  unfolding tis_record tis_fields bits_of
+  reserved_field : field_at 52 3 (tis_fields t) ≡ 0
+  unfolding tis_fields bits_of
   reserved_field = number_of-bits_of 3 0 (lit< tt)
 
-  check_field : field_at 55 8 (tis_record t) ≡ crc8_of (tis_fields t)
-  unfolding tis_record tis_fields bits_of
-  check_field = number_of-bits_of 8 (crc8_of (tis_fields t)) (crc_below 8 29 (tis_fields t) (crc8_of (tis_fields t)) refl)
-
-  front_field : take 55 (tis_record t) ≡ tis_fields t
-  unfolding tis_record tis_fields bits_of
-  front_field = refl
-
-  record_good : tis_bad (tis_record t) ≡ false
-  unfolding tis_bad
-  record_good = rw (check_field, front_field, reserved_field, eq-eqb (crc8_of (tis_fields t)) (crc8_of (tis_fields t)) refl)
-
-  -- a record is read as what it states
-  pub tis_read_record : tis_read (tis_record t) ≡ Ok t
-  tis_read_record = read_as (tis_record t) t record_good coding_field number_field hour_field minute_field duration_field
+  pub tis_stated_back : tis_stated (tis_fields t) ≡ Ok t
+  tis_stated_back = stated_as (tis_fields t) t reserved_field coding_field number_field hour_field minute_field duration_field
 
   pub length-tis_fields : length (tis_fields t) ≡ 55
   unfolding tis_fields bits_of
   length-tis_fields = refl
 
-  pub length-tis_record : length (tis_record t) ≡ 63
-  unfolding tis_record tis_fields bits_of
-  length-tis_record = refl
-
--- bits that are read as a TIS are its record
-module _ (bits : List Bool) (size : length bits ≡ 63) (t : Tis) where
-  read_good : tis_read bits ≡ Ok t → tis_bad bits ≡ false
-  unfolding tis_read
-  read_good e =
-      elim (cases_Bool (tis_bad bits)) [
-        | inl b ↦ let f : ◌≡◌ {A = Result Tis BadRecord} (Err (record {})) (Ok t) = rw b at e in let n : ◌≡◌ {A = ℕ} 0 1 = cc in absurd (omega arith)
-        | inr b ↦ b
+-- bits that state something are its fields
+module _ (bits : List Bool) (size : length bits ≡ 55) (t : Tis) (e : tis_stated bits ≡ Ok t) where
+  stated_good : eqb (field_at 52 3 bits) 0 ≡ true
+  unfolding tis_stated
+  stated_good =
+      elim (cases_Bool (eqb (field_at 52 3 bits) 0)) [
+        | inl b ↦ b
+        | inr b ↦ let f : ◌≡◌ {A = Result Tis BadRecord} (Err (record {})) (Ok t) = rw b at e in let n : ◌≡◌ {A = ℕ} 0 1 = cc in absurd (omega arith)
       ]
 
-  read_made : tis_read bits ≡ Ok t → tis_made (field_at 0 5 bits) (station_of (field_at 5 30 bits) (field_at 35 5 bits) (field_at 40 6 bits) (field_at 46 6 bits)) ≡ Some t
-  unfolding tis_read
-  read_made e = ok_or_some _ t (record {}) (rw (read_good e) at e)
+  stated_made : tis_made (field_at 0 5 bits) (station_of (field_at 5 30 bits) (field_at 35 5 bits) (field_at 40 6 bits) (field_at 46 6 bits)) ≡ Some t
+  unfolding tis_stated
+  stated_made = ok_or_some _ t (record {}) (rw stated_good at e)
 
-  good_parts : tis_read bits ≡ Ok t → (field_at 55 8 bits ≡ crc8_of (take 55 bits)) × (field_at 52 3 bits ≡ 0)
-  unfolding tis_bad
-  good_parts e =
-      let check = eqb (field_at 55 8 bits) (crc8_of (take 55 bits)) in
-      let reserved = eqb (field_at 52 3 bits) 0 in
-      let good = or_parts (not check) (not reserved) (read_good e) in
-      (eqb-true (field_at 55 8 bits) (crc8_of (take 55 bits)) (not-false check good.0), eqb-true (field_at 52 3 bits) 0 (not-false reserved good.1))
-
-  read_fields : tis_read bits ≡ Ok t → tis_fields t ≡ take 55 bits
+  stated_fields : bits ≡ tis_fields t
   unfolding tis_fields
-  read_fields e =
-      let parts = tis_parts (field_at 0 5 bits) (station_of (field_at 5 30 bits) (field_at 35 5 bits) (field_at 40 6 bits) (field_at 46 6 bits)) t (read_made e) in
+  stated_fields =
+      let parts = tis_parts (field_at 0 5 bits) (station_of (field_at 5 30 bits) (field_at 35 5 bits) (field_at 40 6 bits) (field_at 46 6 bits)) t stated_made in
       let numbers = station_parts (field_at 5 30 bits) (field_at 35 5 bits) (field_at 40 6 bits) (field_at 46 6 bits) t.station parts.1 in
       let s = t.station in
+      let whole : take 55 bits ≡ bits = take_all 55 bits (omega arith) in
+      let joined : bits_of 5 t.coding ++ bits_of 30 s.number ++ bits_of 5 s.hour ++ bits_of 6 s.minute ++ bits_of 6 s.duration ++ bits_of 3 0 ≡ take 55 bits =
       rw (
         field_back 5 t.coding (take 5 bits) (part_length bits 0 5 (omega arith)) parts.0,
         field_back 30 s.number (take 30 (drop 5 bits)) (part_length bits 5 30 (omega arith)) numbers.0,
         field_back 5 s.hour (take 5 (drop 35 bits)) (part_length bits 35 5 (omega arith)) numbers.1,
         field_back 6 s.minute (take 6 (drop 40 bits)) (part_length bits 40 6 (omega arith)) numbers.2,
         field_back 6 s.duration (take 6 (drop 46 bits)) (part_length bits 46 6 (omega arith)) numbers.3,
-        field_back 3 0 (take 3 (drop 52 bits)) (part_length bits 52 3 (omega arith)) (good_parts e).1,
+        field_back 3 0 (take 3 (drop 52 bits)) (part_length bits 52 3 (omega arith)) (eqb-true (field_at 52 3 bits) 0 stated_good),
         take_plus 52 3 bits,
         take_plus 46 6 bits,
         take_plus 40 6 bits,
         take_plus 35 5 bits,
         take_plus 5 30 bits,
-      )
+      ) in
+      sym whole ∙ sym joined
 
-  read_record : tis_read bits ≡ Ok t → bits ≡ tis_record t
-  unfolding tis_record
-  read_record e = check_right bits (tis_fields t) 55 size (read_fields e) (good_parts e).0
+-- the answer that is what the fields state is right
+pub tis_reads : (bits : List Bool) (r : Result Tis BadRecord) → length bits ≡ 55 → r ≡ tis_stated bits → ReadsBits tis_fields bits r
+tis_reads bits r size e t = (λ is. stated_fields bits size t (sym e ∙ is), λ is. e ∙ ap tis_stated is ∙ tis_stated_back t)
 
-pub tis_read_exactly : (bits : List Bool) → length bits ≡ 63 → ReadsTis bits (tis_read bits)
-tis_read_exactly bits size t = (read_record bits size t, λ e. ap tis_read e ∙ tis_read_record t)
+-- reserved bits that are not zero state nothing
+pub stated_reserved : (bits : List Bool) → (field_at 52 3 bits ≡ 0 → ⊥) → Err (record {}) ≡ tis_stated bits
+unfolding tis_stated
+stated_reserved bits e = rw (ne_eqb (field_at 52 3 bits) 0 e)
 
--- the answer that is what the record states is right
-pub reads : (bits : List Bool) (r : Result Tis BadRecord) → length bits ≡ 63 → r ≡ tis_read bits → ReadsTis bits r
-reads bits r size e = rw e (tis_read_exactly bits size)
-
-pub read_bad : (bits : List Bool) → tis_bad bits ≡ true → Err (record {}) ≡ tis_read bits
-unfolding tis_read
-read_bad bits bad = rw bad
-
--- numbers that no station record holds are not read
-pub read_refused : (bits : List Bool) (n h m d : ℕ) → tis_bad bits ≡ false → n ≡ field_at 5 30 bits → h ≡ field_at 35 5 bits → m ≡ field_at 40 6 bits →
-    d ≡ field_at 46 6 bits → (Allowed n h m d → ⊥) → Err (record {}) ≡ tis_read bits
-unfolding tis_read
-read_refused bits n h m d good at_n at-h at-m at-d never =
+-- numbers that no station record holds state nothing
+pub stated_refused : (bits : List Bool) (n h m d : ℕ) → field_at 52 3 bits ≡ 0 → n ≡ field_at 5 30 bits → h ≡ field_at 35 5 bits → m ≡ field_at 40 6 bits →
+    d ≡ field_at 46 6 bits → (Allowed n h m d → ⊥) → Err (record {}) ≡ tis_stated bits
+unfolding tis_stated
+stated_refused bits n h m d good at_n at_h at_m at_d never =
     let none : station_of n h m d ≡ None =
     elim (cases_Bool (allowed? n h m d)) [
       | inl e ↦ absurd (never (is_allowed n h m d e))
       | inr e ↦ checked_not {X = Station} (allowed? n h m d) (λ a. record { number = n; hour = h; minute = m; duration = d; allowed = is_allowed n h m d a }) e
     ] in
-    rw (good, sym at_n, sym at-h, sym at-m, sym at-d, none)
+    rw (good, sym at_n, sym at_h, sym at_m, sym at_d, none)
 
--- and the others are
-module _ (bits : List Bool) (k : ℕ) (s : Station) (fits : k < 32) where
-  pub read_accepted : tis_bad bits ≡ false → k ≡ field_at 0 5 bits → s.number ≡ field_at 5 30 bits → s.hour ≡ field_at 35 5 bits →
-      s.minute ≡ field_at 40 6 bits → s.duration ≡ field_at 46 6 bits → Ok (record { coding = k; station = s; below = fits }) ≡ tis_read bits
-  read_accepted good at-k at_n at-h at-m at-d =
-      sym (read_as bits (record { coding = k; station = s; below = fits }) good (sym at-k) (sym at_n) (sym at-h) (sym at-m) (sym at-d))
+-- and the others state what they name
+pub stated_accepted : (bits : List Bool) (k : ℕ) (s : Station) (fits : k < 32) → field_at 52 3 bits ≡ 0 → k ≡ field_at 0 5 bits → s.number ≡ field_at 5 30 bits → s.hour ≡ field_at 35 5 bits →
+    s.minute ≡ field_at 40 6 bits → s.duration ≡ field_at 46 6 bits → Ok (record { coding = k; station = s; below = fits }) ≡ tis_stated bits
+stated_accepted bits k s fits good at_k at_n at_h at_m at_d =
+    sym (stated_as bits (record { coding = k; station = s; below = fits }) good (sym at_k) (sym at_n) (sym at_h) (sym at_m) (sym at_d))
 
 pub coding_below : (bits : List Bool) (n : ℕ) → n ≡ field_at 0 5 bits → n < 32
 coding_below bits n e = rw e (field_below bits 0 5)
-
-pub error_is : (r : Result Tis BadRecord) → is_err r ≡ true → r ≡ Err (record {})
-error_is (Ok t) e = absurd (false≢true e)
-error_is (Err b) e = refl
 
 -- the number of a coding has five bits
 pub data_coding-below : (o : Occupancy) (d : DataConstellation) (r : Rate) → data_coding o d r < 32

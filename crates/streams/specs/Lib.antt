@@ -1,2 +1,3 @@
+pub mod Records
 pub mod Mis
 pub mod Tis

@@ -1,71 +1,69 @@
-// The MIS record: 14 bits, of which the last eight check the first six.
-ghost use Rattle.streams.specs.Mis.{mis_bad, mis_fields, mis_read, mis_record, mode_of, ReadsMis};
-ghost use Rattle.std.specs.Prelude.{◌≡◌, length};
+// Records of streams: fields, and behind them a check of eight bits over the fields.
+ghost use Rattle.streams.specs.Records.{ReadsBits, record_read, with_check};
+ghost use Rattle.std.specs.Prelude.{◌≡◌, ◌+◌, ◌-◌, ◌≤◌, Bool, Err, List, Result, length};
+ghost use Rattle.streams.specs.declared.records.BadRecord.{BadRecord as BadRecordType};
 
 use bits::{crc8, read_number, write_number};
-use modes::{DataConstellation, Mis, Occupancy, TisConstellation};
+use modes::UnknownNumber;
 
 // A record that no sender makes.
 #[derive(Clone, Copy, PartialEq, Eq, Debug)]
 pub struct BadRecord;
 
-// Writes the six bits before the check: the numbers, and a fill of zero.
-fn write_fields(mis: Mis, fields: &mut [bool])
-    requires { length fields.old ≡ 6 }
-    ensures { fields.new ≡ mis_fields mis }
-{
-    write_number(u32::from(mis.occupancy.number()), &mut fields[0..2]);
-    write_number(u32::from(mis.tis.number()), &mut fields[2..3]);
-    write_number(u32::from(mis.data.number()), &mut fields[3..5]);
-    write_number(0, &mut fields[5..6]);
+impl From<UnknownNumber> for BadRecord {
+    ghost from_gives = { λ _ r. r ≡ record {} };
+
+    fn from(_unknown: UnknownNumber) -> BadRecord {
+        BadRecord
+    }
 }
 
-// The record that states `mis`.
-pub fn mis_record(mis: Mis) -> [bool; 14]
-    ensures { result ≡ mis_record mis }
+// What a stream states in a record of so many bits, of which the last eight are the check.
+pub trait Record<const BITS: usize>: Copy {
+    // the bits before the check
+    ghost field_bits: { Self → List Bool };
+
+    // what such bits state
+    ghost stated: { List Bool → Result Self BadRecordType };
+
+    // Writes the bits before the check, which tell apart what is stated.
+    fn write_fields(self, fields: &mut [bool])
+        requires { length fields.old + 8 ≡ BITS }
+        ensures value { fields.new ≡ field_bits self }
+        ensures sized { (other : Self) → length (field_bits other) + 8 ≡ BITS }
+        ensures apart { (other : Self) → field_bits other ≡ field_bits self → other ≡ self };
+
+    // What the bits before the check state.
+    fn read_fields(fields: &[bool]) -> Result<Self, BadRecord>
+        requires { length fields.now + 8 ≡ BITS }
+        ensures value { result ≡ stated fields.now }
+        ensures exactly { ReadsBits field_bits fields.now result };
+
+    ghost room: { 8 ≤ BITS };
+}
+
+// The record that states what is given.
+pub fn write_record<R: Record<BITS>, const BITS: usize>(stated: R) -> [bool; BITS]
+    ensures value { result ≡ with_check (R.field_bits stated) }
+    ensures sized { (other : R) → length (R.field_bits other) + 8 ≡ BITS }
+    ensures apart { (other : R) → R.field_bits other ≡ R.field_bits stated → other ≡ stated }
 {
-    let mut record = [false; 14];
-    write_fields(mis, &mut record[0..6]);
-    let check = crc8(&record[0..6]);
-    write_number(u32::from(check), &mut record[6..14]);
+    let mut record = [false; BITS];
+    let bits = &mut record[..];
+    stated.write_fields(&mut bits[..BITS - 8]);
+    let check = crc8(&bits[..BITS - 8]);
+    write_number(u32::from(check), &mut bits[BITS - 8..]);
     record
 }
 
-// Whether the check is wrong, the fill is 1, or the data constellation is 3.
-fn is_bad(bits: &[bool; 14]) -> bool
-    ensures { result ≡ mis_bad bits.now }
-{
-    let wrong_check = read_number(&bits[6..14]) != u32::from(crc8(&bits[0..6]));
-    let filled = read_number(&bits[5..6]) == 1;
-    let unknown_data = read_number(&bits[3..5]) == 3;
-    wrong_check || filled || unknown_data
-}
-
-fn mode_of(
-    occupancy: Option<Occupancy>,
-    tis: Option<TisConstellation>,
-    data: Option<DataConstellation>,
-) -> Result<Mis, BadRecord>
-    ensures { result ≡ mode_of occupancy tis «data» }
-{
-    Ok(Mis {
-        occupancy: occupancy.ok_or(BadRecord)?,
-        tis: tis.ok_or(BadRecord)?,
-        data: data.ok_or(BadRecord)?,
-    })
-}
-
 // What a record states.
-pub fn read_mis_record(bits: &[bool; 14]) -> Result<Mis, BadRecord>
-    ensures value { result ≡ mis_read bits.now }
-    ensures exactly { ReadsMis bits.now result }
+pub fn read_record<R: Record<BITS>, const BITS: usize>(bits: &[bool; BITS]) -> Result<R, BadRecord>
+    ensures value { result ≡ record_read (BITS - 8) R.stated bits.now }
+    ensures exactly { ReadsBits (λ (r : R). with_check (R.field_bits r)) bits.now result }
 {
-    if is_bad(bits) {
+    let (fields, check) = bits.split_at(BITS - 8);
+    if read_number(check) != u32::from(crc8(fields)) {
         return Err(BadRecord);
     }
-    mode_of(
-        Occupancy::from_number(read_number(&bits[0..2])),
-        TisConstellation::from_number(read_number(&bits[2..3])),
-        DataConstellation::from_number(read_number(&bits[3..5])),
-    )
+    R::read_fields(fields)
 }

@@ -6,15 +6,11 @@ use Rattle.bits.proofs.crc.Generator.crc.Goals as goal
 
 pub loop-bit-init : goal.loop-bit-init
 unfolding registered
-loop-bit-init c = omega (arith, shifted_one c.args.self.width c.requires.degree)
+loop-bit-init c = omega (arith, shifted_one c.args.self.width c.args.self.degree)
 
 pub step-register-requires : goal.step-register-requires
 step-register-requires c =
-    record {
-      degree = c.requires.degree;
-      lower = c.requires.lower;
-      within = omega (arith, registered-below c.args.self.width c.args.self.polynomial (take c.loop-bit.bit-index c.args.bits.now) c.requires.lower);
-    }
+    omega (arith, registered-below c.args.self.width c.args.self.polynomial (take c.loop-bit.bit-index c.args.bits.now) c.args.self.lower)
 
 pub loop-bit-preserved : goal.loop-bit-preserved
 loop-bit-preserved c =
@@ -29,15 +25,15 @@ pub overflow_sub-result : goal.overflow_sub-result
 overflow_sub-result c =
     omega (
       arith,
-      shifted_one c.args.self.width c.requires.degree,
-      registered-below c.args.self.width c.args.self.polynomial (take c.loop-bit.bit-index c.args.bits.now) c.requires.lower,
+      shifted_one c.args.self.width c.args.self.degree,
+      registered-below c.args.self.width c.args.self.polynomial (take c.loop-bit.bit-index c.args.bits.now) c.args.self.lower,
     )
 
 -- what the code answers is the check
 value : (c : goal.After-loop-bit) → (1 * 2 ^ c.args.self.width) % 2 ^ 32 - 1 - c.loop-bit.register ≡ crc_of c.args.self.width c.args.self.polynomial c.args.bits.now
 unfolding crc_of
 value c =
-    let span = shifted_one c.args.self.width c.requires.degree in
+    let span = shifted_one c.args.self.width c.args.self.degree in
     let all = take_all c.loop-bit.bit-index c.args.bits.now c.loop-bit-test.false in
     cc
 
@@ -45,5 +41,5 @@ pub returns : goal.returns
 returns c =
     record {
       value = value c;
-      remainder = rw (value c) (crc_remainder c.args.self.width c.args.self.polynomial c.args.bits.now c.requires.lower);
+      remainder = rw (value c) (crc_remainder c.args.self.width c.args.self.polynomial c.args.bits.now c.args.self.lower);
     }
