@@ -38,14 +38,16 @@ impl LineUp {
         self.mode = Some(mode);
         Ok(())
     }
+}
 
-    // A line-up that holds the same.
-    pub fn copy(&self, heap: Global) -> Result<Self, AllocError>
-        ensures { IfOk result (λ l. view_of l ≡ view_of self.now) }
-    {
-        let mut plan = Vec::with_capacity(heap, ROOM)?;
+// A clone holds the same, and has room for the widest frame too.
+impl Clone for LineUp {
+    ghost is_clone = { λ l k. view_of k ≡ view_of l };
+
+    fn clone(&self) -> Result<Self, AllocError> {
+        let mut plan = Vec::with_capacity(*self.plan.allocator(), ROOM)?;
         plan.extend_from_slice(self.plan.as_slice())?;
-        let code = self.code.copy(heap)?;
+        let code = self.code.clone()?;
         Ok(LineUp {
             mode: self.mode,
             plan,

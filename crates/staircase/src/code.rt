@@ -46,12 +46,14 @@ impl Staircase {
         let _ = self.exponents.extend_from_slice(exponents);
         self.shape = shape;
     }
+}
 
-    // A code with the same numbers.
-    pub fn copy(&self, heap: Global) -> Result<Self, AllocError>
-        ensures { IfOk result (λ c. (c.shape ≡ self.now.shape) × (c.exponents.items ≡ self.now.exponents.items)) }
-    {
-        let mut exponents = Vec::with_capacity(heap, ROOM)?;
+// A clone has the same numbers, and room for all exponents too.
+impl Clone for Staircase {
+    ghost is_clone = { λ c d. (d.shape ≡ c.shape) × (d.exponents.items ≡ c.exponents.items) };
+
+    fn clone(&self) -> Result<Self, AllocError> {
+        let mut exponents = Vec::with_capacity(*self.exponents.allocator(), ROOM)?;
         exponents.extend_from_slice(self.exponents.as_slice())?;
         Ok(Staircase {
             shape: self.shape,
