@@ -1,3 +1,2 @@
-pub mod Numbers
-pub mod Shapes
+pub mod Sizes
 pub mod Views

@@ -1,7 +1,7 @@
 -- A line-up: the mode of a frame, what each of its cells carries, and the code of its data. What may be asked of one, and why it is refused.
 use Rattle.std.specs.Prelude.{◌≡◌, ℕ, ◌+◌, ◌*◌, ◌/◌, ◌%◌, ◌<◌, ◌≤◌, Bool, true, false, cond, ◌&&◌, List, [], ◌∷◌, length, ℤ, pos, negsuc, ◌≤ℤ◌, ◌<ℤ◌, Some, Ok, Err, count_by, Option, Result, ◌==◌, nat_eq, nat_le, nat_lt, slice_index, slice_index_or}
 use Rattle.refusals.specs.declared.Refusal.{Refusal}
-use Rattle.refusals.specs.declared.Refusal.TheVariants.{ModeOutOfRange, PlanLength, PlanByte, FewStreamCells, CodeShape, ExponentOutOfRange, BlockLength, FewDataCells, StationOutOfRange, EmptyLineUp, MessageLoaded, MessageLength, TooManyPieces, NothingLoaded, NoStation, SliceLength, MisBeyondReach, BadMis, OtherMode, TisBeyondReach, BadTis, OtherDataCoding, DataBeyondReach, BadPacket, Misplaced, NothingComplete, FewBytes}
+use Rattle.refusals.specs.declared.Refusal.TheVariants.{ModeOutOfRange, PlanLength, PlanByte, FewStreamCells, CodeShape, ExponentOutOfRange, BlockLength, FewDataCells}
 
 -- the carriers of a symbol, by the number of the occupancy
 abbrev pub carriers_of : ℕ → ℕ
@@ -172,25 +172,7 @@ Refuses a CodeShape = Pass4 a × (code_shaped a.rate a.lift a.rows a.columns (le
 Refuses a (ExponentOutOfRange place) = Pass5 a × BadExponent a.lift a.exponents place
 Refuses a BlockLength = Pass6 a × (block_fits a.constellation a.lift a.columns ≡ false)
 Refuses a FewDataCells = Pass7 a × (data_fits a.lift a.rows a.columns a.plan ≡ false)
-Refuses a StationOutOfRange = ⊥
-Refuses a EmptyLineUp = ⊥
-Refuses a MessageLoaded = ⊥
-Refuses a MessageLength = ⊥
-Refuses a TooManyPieces = ⊥
-Refuses a NothingLoaded = ⊥
-Refuses a NoStation = ⊥
-Refuses a SliceLength = ⊥
-Refuses a MisBeyondReach = ⊥
-Refuses a BadMis = ⊥
-Refuses a (OtherMode o t d) = ⊥
-Refuses a TisBeyondReach = ⊥
-Refuses a BadTis = ⊥
-Refuses a OtherDataCoding = ⊥
-Refuses a (DataBeyondReach word) = ⊥
-Refuses a BadPacket = ⊥
-Refuses a Misplaced = ⊥
-Refuses a NothingComplete = ⊥
-Refuses a FewBytes = ⊥
+Refuses a _ = ⊥
 
 -- what a line-up holds, if it holds anything, passes
 abbrev pub Holds : Option Asked → (Asked → Type 0) → Type 0

@@ -1,16 +1,11 @@
 // The cells of a frame, and the kinds that a plan gives them.
-ghost use Rattle.std.specs.Prelude.{◌≡◌, length, MatchOption};
+ghost use Rattle.std.specs.Prelude.{◌≡◌, ◌≤◌, length, MatchOption, vec_capacity};
 ghost use Rattle.modes.specs.Modes.{occupancy_number, tis_number};
+ghost use Rattle.lineup.specs.Kinds.{kind_number, plan_bytes};
 ghost use Rattle.lineup.specs.LineUps.{BadByte, BytesKnown, cells_of, cells_of_kind, streams_fit, tis_cells};
 
+use crate::kind::CellKind;
 use modes::{Occupancy, TisConstellation};
-
-// the bytes of a plan that stand for the streams
-const MIS: u8 = 3;
-
-const TIS: u8 = 4;
-
-pub(crate) const DATA: u8 = 5;
 
 // the cells that the MIS takes
 const MIS_CELLS: usize = 14;
@@ -42,34 +37,40 @@ fn tis_cells(tis: TisConstellation) -> usize
 }
 
 // How many cells of a plan are of a kind.
-pub(crate) fn count(plan: &[u8], kind: u8) -> usize
-    ensures { result ≡ cells_of_kind kind plan.now }
+pub(crate) fn count(plan: &[u8], kind: CellKind) -> usize
+    ensures { result ≡ cells_of_kind (kind_number kind) plan.now }
 {
-    let mut n = 0;
-    for byte in plan {
-        if *byte == kind {
-            n += 1;
-        }
-    }
-    n
+    let number = u8::from(kind);
+    plan.iter().filter(|byte| **byte == number).count()
 }
 
-// The place of a byte above 5, if there is one.
+// The place of a byte that stands for no kind, if there is one.
 pub(crate) fn bad_byte(plan: &[u8]) -> Option<usize>
     ensures { MatchOption result (BytesKnown plan.now) (λ place. BadByte plan.now place) }
 {
-    for (i, byte) in plan.iter().enumerate() {
-        if *byte > DATA {
-            return Some(i);
-        }
-    }
-    None
+    plan.iter()
+        .position(|byte| CellKind::try_from(*byte).is_err())
 }
 
 // Whether the MIS and the TIS have cells enough.
 pub(crate) fn streams_fit(tis: TisConstellation, plan: &[u8]) -> bool
     ensures { result ≡ streams_fit (tis_number tis) plan.now }
 {
-    let mis = count(plan, MIS);
-    mis >= MIS_CELLS && count(plan, TIS) >= tis_cells(tis)
+    let mis = count(plan, CellKind::Mis);
+    mis >= MIS_CELLS && count(plan, CellKind::Tis) >= tis_cells(tis)
+}
+
+// Makes the plan the kinds that the bytes stand for. There is room for them, so no memory is needed.
+pub(crate) fn write_plan(bytes: &[u8], plan: &mut Vec<CellKind>)
+    requires known { BytesKnown bytes.now }
+    requires room { length bytes.now ≤ vec_capacity plan.old }
+    ensures kinds { plan_bytes plan.new.items ≡ bytes.now }
+    ensures room { vec_capacity plan.old ≤ vec_capacity plan.new }
+{
+    plan.clear();
+    for byte in bytes {
+        if let Ok(kind) = CellKind::try_from(*byte) {
+            plan.push_reserved(kind);
+        }
+    }
 }

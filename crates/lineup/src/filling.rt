@@ -1,9 +1,11 @@
 // Making and filling line-ups.
 ghost use Rattle.std.specs.Prelude.{◌≡◌, IfOk, None};
-ghost use Rattle.lineup.specs.LineUps.{Filled, asked};
+ghost use Rattle.lineup.specs.LineUps.{Filled};
+ghost use Rattle.lineup.specs.Judging.{asked_by};
 ghost use Rattle.lineup.specs.Views.{view_of};
 
-use crate::judge::judge;
+use crate::asked::Asked;
+use crate::cells::write_plan;
 use crate::line_up::LineUp;
 use refusals::Refusal;
 use staircase::code::Staircase;
@@ -27,46 +29,25 @@ impl LineUp {
     }
 
     // Fills the line-up with what is asked, or refuses and leaves it as it was.
-    pub fn fill(
-        &mut self,
-        occupancy: u32,
-        tis: u32,
-        data: u32,
-        rate: u32,
-        plan: &[u8],
-        lift: u32,
-        rows: u32,
-        columns: u32,
-        exponents: &[i16],
-    ) -> Result<(), Refusal>
-        ensures { Filled (view_of self.old) (view_of self.new) (asked occupancy tis «data» rate plan.now lift rows columns exponents.now) result }
+    pub fn fill(&mut self, asked: Asked<'_>) -> Result<(), Refusal>
+        ensures { Filled (view_of self.old) (view_of self.new) (asked_by asked.entry) result }
     {
-        let mode = judge(
-            occupancy,
-            tis,
-            data,
-            rate,
-            plan,
-            lift as usize,
-            rows as usize,
-            columns as usize,
-            exponents,
-        )?;
-        self.plan.clear();
-        let _ = self.plan.extend_from_slice(plan);
-        self.code
-            .fill(lift as usize, rows as usize, columns as usize, exponents);
+        let (mode, shape) = asked.judge()?;
+        write_plan(asked.plan, &mut self.plan);
+        self.code.fill(shape, asked.exponents);
         self.mode = Some(mode);
         Ok(())
     }
+}
 
-    // A line-up that holds the same.
-    pub fn copy(&self, heap: Global) -> Result<Self, AllocError>
-        ensures { IfOk result (λ l. view_of l ≡ view_of self.now) }
-    {
-        let mut plan = Vec::with_capacity(heap, ROOM)?;
+// A clone holds the same, and has room for the widest frame too.
+impl Clone for LineUp {
+    ghost is_clone = { λ l k. view_of k ≡ view_of l };
+
+    fn clone(&self) -> Result<Self, AllocError> {
+        let mut plan = Vec::with_capacity(*self.plan.allocator(), ROOM)?;
         plan.extend_from_slice(self.plan.as_slice())?;
-        let code = self.code.copy(heap)?;
+        let code = self.code.clone()?;
         Ok(LineUp {
             mode: self.mode,
             plan,

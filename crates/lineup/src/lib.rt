@@ -1,10 +1,11 @@
 // Line-ups: the mode of a frame, what each of its cells carries, and the code of its data.
 #![tactic(auto)]
 
+pub mod asked;
 mod block;
 mod cells;
 mod filling;
-mod judge;
+pub mod kind;
 pub mod line_up;
 pub mod mode;
 mod reading;

@@ -1,6 +1,7 @@
 // What a line-up holds.
 ghost use Rattle.std.specs.Prelude.{◌≡◌};
 
+use crate::kind::CellKind;
 use crate::line_up::LineUp;
 use crate::mode::Mode;
 use staircase::code::Staircase;
@@ -14,7 +15,7 @@ impl LineUp {
     }
 
     // What each cell carries.
-    pub fn plan(&self) -> &[u8]
+    pub fn plan(&self) -> &[CellKind]
         ensures { result.now ≡ self.now.plan.items }
     {
         self.plan.as_slice()

@@ -1,13 +1,15 @@
-// The shape of the data code, and what it asks of a frame.
-ghost use Rattle.std.specs.Prelude.{◌≡◌, ◌≤◌, length, Decides, MatchOption};
+// What the shape of the data code asks of a frame.
+ghost use Rattle.std.specs.Prelude.{◌≡◌, ◌≤◌, Decides, MatchOption};
 ghost use Rattle.modes.specs.Modes.{data_number, rate_number};
-ghost use Rattle.lineup.specs.LineUps.{BadExponent, ExponentsKnown, InRange, block_fits, code_shaped, columns_for, data_fits, data_words};
+ghost use Rattle.lineup.specs.LineUps.{BadExponent, ExponentsKnown, InRange, block_fits, columns_for, data_fits, data_words};
 
-use crate::cells::{DATA, count};
+use crate::cells::count;
+use crate::kind::CellKind;
 use modes::{DataConstellation, Rate};
+use staircase::shape::Shape;
 
 // How many columns a code of so many rows has.
-fn columns_for(rate: Rate, rows: usize) -> usize
+pub(crate) fn columns_for(rate: Rate, rows: usize) -> usize
     requires { rows ≤ 16 }
     ensures { result ≡ columns_for (rate_number rate) rows }
 {
@@ -17,47 +19,20 @@ fn columns_for(rate: Rate, rows: usize) -> usize
     }
 }
 
-// Whether the code's numbers are in range and fit one another.
-pub(crate) fn code_shaped(
-    rate: Rate,
-    lift: usize,
-    rows: usize,
-    columns: usize,
-    exponents: usize,
-) -> bool
-    ensures { result ≡ code_shaped (rate_number rate) lift rows columns exponents }
-{
-    if lift < 1 || lift > 160 {
-        return false;
-    }
-    if rows < 1 || rows > 16 {
-        return false;
-    }
-    if columns < 1 || columns > 24 {
-        return false;
-    }
-    columns == columns_for(rate, rows) && exponents == rows * columns
-}
-
 // Whether an exponent is in range.
-fn in_range(exponent: i16, lift: usize) -> bool
-    requires { lift ≤ 160 }
-    ensures { Decides result (InRange lift exponent) }
+fn in_range(exponent: i16, shape: Shape) -> bool
+    ensures { Decides result (InRange shape.lift exponent) }
 {
-    exponent >= -1 && exponent < lift as i16
+    (-1..shape.lift() as i16).contains(&exponent)
 }
 
 // The place of an exponent that is out of range, if there is one.
-pub(crate) fn bad_exponent(exponents: &[i16], lift: usize) -> Option<usize>
-    requires { lift ≤ 160 }
-    ensures { MatchOption result (ExponentsKnown lift exponents.now) (λ place. BadExponent lift exponents.now place) }
+pub(crate) fn bad_exponent(exponents: &[i16], shape: Shape) -> Option<usize>
+    ensures { MatchOption result (ExponentsKnown shape.lift exponents.now) (λ place. BadExponent shape.lift exponents.now place) }
 {
-    for (i, exponent) in exponents.iter().enumerate() {
-        if !in_range(*exponent, lift) {
-            return Some(i);
-        }
-    }
-    None
+    exponents
+        .iter()
+        .position(|exponent| !in_range(*exponent, shape))
 }
 
 // The data words of a frame.
@@ -73,21 +48,16 @@ pub(crate) fn data_words(data: DataConstellation) -> usize
 }
 
 // Whether a frame's block is of whole bytes, and of 7 or more.
-pub(crate) fn block_fits(data: DataConstellation, lift: usize, columns: usize) -> bool
-    requires lift { lift ≤ 160 }
-    requires columns { columns ≤ 24 }
-    ensures { result ≡ block_fits (data_number «data») lift columns }
+pub(crate) fn block_fits(data: DataConstellation, shape: Shape) -> bool
+    ensures { result ≡ block_fits (data_number «data») shape.lift shape.columns }
 {
-    let bits = data_words(data) * (columns * lift);
+    let bits = data_words(data) * shape.message_length();
     bits % 8 == 0 && bits / 8 >= 7
 }
 
 // Whether the data have cells enough.
-pub(crate) fn data_fits(lift: usize, rows: usize, columns: usize, plan: &[u8]) -> bool
-    requires lift { lift ≤ 160 }
-    requires rows { rows ≤ 16 }
-    requires columns { columns ≤ 24 }
-    ensures { result ≡ data_fits lift rows columns plan.now }
+pub(crate) fn data_fits(shape: Shape, plan: &[u8]) -> bool
+    ensures { result ≡ data_fits shape.lift shape.rows shape.columns plan.now }
 {
-    (columns + rows) * lift / 2 <= count(plan, DATA)
+    shape.word_length() / 2 <= count(plan, CellKind::Data)
 }

@@ -1,9 +1,9 @@
 -- Check groups, one after the other. Assumes nothing.
 use Rattle.std.specs.Prelude.{◌≡◌, ℕ, zero, suc, ◌+◌, ◌-◌, ◌*◌, ◌/◌, ◌%◌, ◌<◌, ◌≤◌, Bool, false, List, [], ◌∷◌, ◌++◌, length, get_or, take, drop, replicate, ℤ, slice_index_or, refl}
-use Rattle.std.proofs.Common.{sym, ap, subst, ◌∙◌, ⊎_elim, add-mul, zero-mul, mul-zero, add-one, arith, take-add}
+use Rattle.std.proofs.Common.{sym, ap, subst, ◌∙◌, ⊎_elim, add-mul, zero-mul, mul-zero, add-one, arith}
 use borrow.Rule.Slice.PartMut.{put_mid}
 use Rattle.std.specs.List.{range_with_len, flat_map}
-use Rattle.std.proofs.lemmas.List.{append_assoc, length-append, get_or_append_left, get_or-append_right, flat_map_more, map-id, drop_at, take_at, drop-drop, ext_get_or, get_or-drop, get_or-take, length-drop, length-take-le, take-replicate, length-replicate, get_or-replicate}
+use Rattle.std.proofs.lemmas.List.{append_assoc, length-append, get_or_append_left, get_or-append_right, flat_map_more, map-id, drop_at, take_at, drop-drop, ext_get_or, take-replicate, length-replicate, get_or-replicate}
 use Rattle.std.proofs.lemmas.Nat.{mul-le, div_below, mod_below, div-add-mod'}
 use Rattle.std.proofs.lemmas.List.FromFn.{map-range_with_len_more}
 use Rattle.std.proofs.lemmas.Bool.{cases_lt}
@@ -68,29 +68,6 @@ module _ (lift : ℕ) (f : ℕ → List Bool) where
         let split = div-add-mod' k lift in
         rw (← split) (at (k / lift) (k % lift) i r ∙ sym (get_or_groups n (k / lift) (k % lift) i r)))
 
-    -- a group cut out
-    pub groups_part : (n i : ℕ) → i < n → take lift (drop (i * lift) (flat_map f (range_with_len 0 n))) ≡ f i
-    groups_part n i h =
-        let all = flat_map f (range_with_len 0 n) in
-        let most = mul-le (i + 1) lift n lift (omega arith) (omega arith) in
-        let one = add-mul i 1 lift in
-        let size = length_groups n in
-        let rest = length-drop (i * lift) all in
-        let part = length-take-le lift (drop (i * lift) all) (omega arith) in
-        ext_get_or false (take lift (drop (i * lift) all)) (f i) (part ∙ sym (each i))
-        (λ r l.
-        let k : r < lift = omega arith in
-        get_or-take lift (drop (i * lift) all) r false k ∙ get_or-drop (i * lift) all r false ∙ get_or_groups n i r h k)
-
-    -- one more group found
-    pub groups_found : (xs group : List Bool) (i k : ℕ) → k ≡ lift → take (i * lift) xs ≡ flat_map f (range_with_len 0 i) → group ≡ f i → group ≡ take k (drop (i * lift) xs)
-        → take ((i + 1) * lift) xs ≡ flat_map f (range_with_len 0 (i + 1))
-    groups_found xs group i k size e g same =
-        let one : (i + 1) * lift ≡ i * lift + lift = omega (arith, add-mul i 1 lift) in
-        let cut = take-add (i * lift) lift xs in
-        let found : take lift (drop (i * lift) xs) ≡ f i = sym (rw size at same) ∙ g in
-        rw (one, cut, e, found) (sym (groups_more i))
-
     -- one more group written
     pub groups_put : (old checks group : List Bool) (i k : ℕ) → k ≡ lift → checks ≡ flat_map f (range_with_len 0 i) ++ drop (i * lift) old → group ≡ f i
         → put_mid (i * lift) k checks group ≡ flat_map f (range_with_len 0 (i + 1)) ++ drop ((i + 1) * lift) old
@@ -113,12 +90,11 @@ module _ (lift columns : ℕ) (es : List ℤ) (message : List Bool) where
 
   -- the sums with one more row are its check group
   pub sums_more : (row : List ℤ) (sums new : List Bool) (i : ℕ) → sums ≡ places lift (stair lift columns es message i) → row ≡ row_of columns es i
-      → new ≡ places (length sums) (λ r. get_or sums r false ⊕ row_sum (length sums) row message r)
+      → new ≡ places lift (λ r. get_or sums r false ⊕ row_sum lift row message r)
       → new ≡ group i
   sums_more row sums new i e is f =
-      let size : length sums ≡ lift = ap length e ∙ length-places lift (stair lift columns es message i) in
       let sum : ℕ → Bool = λ r. get_or sums r false ⊕ sum_at lift columns es message i r in
-      let added : new ≡ places lift sum = simp (size, is) at f in
+      let added : new ≡ places lift sum = simp is at f in
       added ∙ places_is (places lift sum) lift _ (length-places lift sum)
       (λ r h. get_or-places lift sum r h
       ∙ ap (λ (b : Bool). b ⊕ sum_at lift columns es message i r) (ap (λ (xs : List Bool). get_or xs r false) e ∙ get_or-places lift (stair lift columns es message i) r h)
@@ -128,8 +104,7 @@ module _ (lift columns : ℕ) (es : List ℤ) (message : List Bool) where
   stair_more i = rw (add-one i)
 
   -- before the first row the sums are zeros
-  pub stair_none : (m : ℕ) → lift ≤ m → take (lift - 0) (replicate m false) ≡ places lift (stair lift columns es message 0)
+  pub stair_none : (m : ℕ) → lift ≤ m → take lift (replicate m false) ≡ places lift (stair lift columns es message 0)
   stair_none m h =
-      let whole : lift - 0 ≡ lift = omega arith in
-      rw (whole, take-replicate lift m false h)
+      rw (take-replicate lift m false h)
       (places_is (replicate lift false) lift _ (length-replicate lift false) (λ r l. get_or-replicate lift r false false l))

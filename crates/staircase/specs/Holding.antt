@@ -4,9 +4,9 @@ use Rattle.std.proofs.Common.{sym, ◌∙◌, ⊎_elim, add-mul, add-one, arith}
 use Rattle.std.proofs.Math.Path.{ap}
 use Rattle.std.proofs.lemmas.Nat.{mul-le}
 use Rattle.std.proofs.lemmas.Bool.{eqb-true, or_cases}
-use Rattle.std.proofs.lemmas.List.{length-append, length-drop, length-take-le, take_all, take-append-drop, take_at, drop_at}
+use Rattle.std.proofs.lemmas.List.{length-append, length-drop, length-take-le, take-append-drop, take_at, drop_at}
 use Rattle.staircase.specs.Staircase.{check_at, check_groups, check_of, sum_at, word_of, ChecksHold, Lifted, Shaped, IsWord, ◌⊕◌}
-use Rattle.staircase.specs.Groups.{group, length-group, length_groups, get_or_groups, groups_is, groups_part}
+use Rattle.staircase.specs.Groups.{group, length-group, length_groups, get_or_groups, groups_is}
 use Rattle.staircase.specs.Places.{get_or-places}
 
 -- a word has at most 5120 bits
@@ -74,19 +74,14 @@ module _ (lift rows columns : ℕ) (es : List ℤ) where
 
     -- it is enough to compare the check groups
     pub word_from_checks : (message checks : List Bool) → message ≡ take (columns * lift) bits → checks ≡ drop (columns * lift) bits
-        → take (rows * lift) checks ≡ check_groups lift columns es message rows → IsWord lift rows columns es bits
+        → checks ≡ check_groups lift columns es message rows → IsWord lift rows columns es bits
     word_from_checks message checks m c e =
-        let size : length checks ≡ rows * lift = ap length c ∙ length-drop (columns * lift) bits ∙ omega (arith, add-mul columns rows lift) in
-        let all = take_all (rows * lift) checks (omega arith) in
-        let groups : drop (columns * lift) bits ≡ check_groups lift columns es (take (columns * lift) bits) rows =
-        sym c ∙ sym all ∙ e ∙ ap (λ (s : List Bool). check_groups lift columns es s rows) m in
-        sym (take-append-drop (columns * lift) bits) ∙ ap (λ (xs : List Bool). take (columns * lift) bits ++ xs) groups
+        sym (take-append-drop (columns * lift) bits)
+        ∙ ap (λ (xs : List Bool). take (columns * lift) bits ++ xs) (sym c ∙ e ∙ ap (λ (s : List Bool). check_groups lift columns es s rows) m)
 
-    pub group_from_word : (message checks : List Bool) → message ≡ take (columns * lift) bits → checks ≡ drop (columns * lift) bits
-        → IsWord lift rows columns es bits → (i k : ℕ) → i < rows → k ≡ lift → group lift columns es message i ≡ take k (drop (i * lift) checks)
-    group_from_word message checks m c w i k h size =
+    pub checks_from_word : (message checks : List Bool) → message ≡ take (columns * lift) bits → checks ≡ drop (columns * lift) bits
+        → IsWord lift rows columns es bits → checks ≡ check_groups lift columns es message rows
+    checks_from_word message checks m c w =
         let front = take (columns * lift) bits in
-        let groups : checks ≡ check_groups lift columns es message rows =
         c ∙ ap (drop (columns * lift)) w ∙ drop_at front (check_groups lift columns es front rows) (columns * lift) message_size_lem
-        ∙ ap (λ (s : List Bool). check_groups lift columns es s rows) (sym m) in
-        rw (groups, size) (sym (groups_part lift (group lift columns es message) (length-group lift columns es message) rows i h))
+        ∙ ap (λ (s : List Bool). check_groups lift columns es s rows) (sym m)

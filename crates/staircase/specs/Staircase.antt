@@ -1,5 +1,5 @@
 -- The staircase code: a message of K groups of L bits, then M check groups, each the one before it plus a row sum.
-use Rattle.std.specs.Prelude.{◌≡◌, ℕ, zero, suc, ◌+◌, ◌*◌, ◌%◌, ◌<◌, ◌≤◌, Bool, true, false, not, ◌||◌, List, [], ◌∷◌, ◌++◌, map, length, take, drop, ℤ, pos, negsuc, ◌≤ℤ◌, ◌<ℤ◌, Some, None, Option, ◌==◌, slice_index_or}
+use Rattle.std.specs.Prelude.{◌≡◌, ℕ, zero, suc, ◌+◌, ◌*◌, ◌%◌, ◌<◌, ◌≤◌, Bool, true, false, not, ◌||◌, List, [], ◌∷◌, ◌++◌, map, length, take, drop, ℤ, pos, negsuc, ◌≤ℤ◌, ◌<ℤ◌, ◌==◌, slice_index_or}
 use Rattle.std.specs.Bool.{beq}
 use Rattle.std.specs.List.{range_with_len, flat_map}
 
@@ -25,11 +25,6 @@ Valid lift rows columns exponents = Lifted lift × Shaped rows columns × Filled
 infixl 65 ◌⊕◌
 abbrev pub ◌⊕◌ : Bool → Bool → Bool
 a ⊕ b = not (beq a b)
-
--- by how many places an exponent moves its group; −1 stands for no group
-abbrev pub shift_of : ℤ → Option ℕ
-shift_of (pos e) = Some e
-shift_of (negsuc n) = None
 
 -- what a column with the exponent e and the group at the head of the bits gives at the place r: the bit at (r + e) mod L, and nothing where e is −1
 abbrev pub moved : ℕ → ℤ → List Bool → ℕ → Bool

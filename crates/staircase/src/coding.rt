@@ -20,28 +20,28 @@ impl SendingCode for Staircase {
 
     ghost word = { word_in };
 
-    ghost sized = { λ c m h. length-word c.lift c.rows c.columns c.exponents.items m h };
+    ghost sized = { λ c m h. length-word c.shape.lift c.shape.rows c.shape.columns c.exponents.items m h };
 
-    ghost below = { λ c m h b. below-bits (word_of c.lift c.rows c.columns c.exponents.items m) };
+    ghost below = { λ c m h b. below-bits (word_of c.shape.lift c.shape.rows c.shape.columns c.exponents.items m) };
 
-    ghost short = { λ c. word-short c.lift c.rows c.columns c.lifted c.shaped };
+    ghost short = { λ c. word-short c.shape.lift c.shape.rows c.shape.columns c.shape.lifted c.shape.shaped };
 
     ghost positive = { Prim.search rules };
 
     // words that differ in no place begin with the same message
     ghost distant = { λ c m o h k b d near.
-        let word : List Bool → List Bool = word_of c.lift c.rows c.columns c.exponents.items in
+        let word : List Bool → List Bool = word_of c.shape.lift c.shape.rows c.shape.columns c.exponents.items in
         let same : word m ≡ word o = same_from_none (word m) (word o) (omega arith) in
-        sym (message_of_lem c.lift c.rows c.columns c.exponents.items m h)
-        ∙ ap (take (c.columns * c.lift)) same
-        ∙ message_of_lem c.lift c.rows c.columns c.exponents.items o k };
+        sym (message_of_lem c.shape.lift c.shape.rows c.shape.columns c.exponents.items m h)
+        ∙ ap (take (c.shape.columns * c.shape.lift)) same
+        ∙ message_of_lem c.shape.lift c.shape.rows c.shape.columns c.exponents.items o k };
 
     fn message_length(&self) -> usize {
-        self.columns * self.lift
+        self.shape.message_length()
     }
 
     fn word_length(&self) -> usize {
-        (self.columns + self.rows) * self.lift
+        self.shape.word_length()
     }
 
     fn encode(&self, message: &[bool], out: &mut [bool]) {
@@ -61,7 +61,7 @@ impl MendingCode for Staircase {
         if !self.checks_hold(given) {
             return Err(BeyondReach);
         }
-        message.copy_from_slice(&given[0..self.message_length()]);
+        message.copy_from_slice(&given[0..self.shape.message_length()]);
         Ok(0)
     }
 }

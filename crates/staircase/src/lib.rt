@@ -4,5 +4,6 @@
 mod checks;
 pub mod code;
 pub mod coding;
+pub mod shape;
 mod sums;
 mod words;

@@ -1,44 +1,23 @@
-use Rattle.std.proofs.Common.{◌≡◌, ◌≤◌, true, length, is_ok, Some, vec_items, arith}
-use Rattle.lineup.specs.Judging.{held}
-use Rattle.lineup.specs.LineUps.{NoneAbove, NoneBelow, Passes1, Passes2, Passes3, Passes4, Passes5, Passes7, Passes8, asked}
-use Rattle.lineup.proofs.Numbers.{whole_le}
-use Rattle.lineup.proofs.Shapes.{valid}
+use Rattle.std.proofs.Common.{Some, vec_items, arith, rules}
+use Rattle.lineup.specs.Judging.{Forms, asked_by, held}
+use Rattle.lineup.specs.LineUps.{Pass8}
+use Rattle.lineup.proofs.Sizes.{whole_le}
 use Rattle.lineup.proofs.Views.{held_is, holds}
 use Rattle.lineup.proofs.line_up.LineUp.fill.Goals as goal
 
-pub fill-requires : goal.fill-requires
-fill-requires c =
-    let a = c.args in
-    let b = asked a.occupancy a.tis a.data a.rate a.plan.now a.lift a.rows a.columns a.exponents.now in
-    valid b c.in_ok-mode.ensures.0.0.0
+pub write_plan-requires-clause-room : goal.write_plan-requires-clause-room
+write_plan-requires-clause-room c =
+    let judged = c.in_ok-mode.ensures in
+    let few = whole_le c.args.asked.occupancy c.in_ok-mode.mode.occupancy c.args.asked.plan.now judged.1.0 judged.0.0.0.0.0.0.0.1 in
+    omega arith
 
--- the plan has room, so all of it is there, and the line-up holds what was asked
 pub invariant_of-self : goal.invariant_of-self
 invariant_of-self c =
-    let a = c.args in
-    let b = asked a.occupancy a.tis a.data a.rate a.plan.now a.lift a.rows a.columns a.exponents.now in
+    let a = asked_by c.args.asked in
     let judged = c.in_ok-mode.ensures in
-    let p = judged.0 in
     let mode = c.in_ok-mode.mode in
-    let few : length a.plan.now ≤ 3435 = whole_le a.occupancy mode.occupancy a.plan.now judged.1.0 p.0.0.0.0.0.0.1 in
-    let ok : is_ok c.extend_from_slice.result ≡ true = c.extend_from_slice.ensures.succeeds (omega arith) in
-    let none = c.clear.ensures.items in
-    let all = c.extend_from_slice.ensures.items in
-    let written : vec_items c.extend_from_slice.new.self ≡ a.plan.now = rw (ok, none) at all in
-    let f = c.fill.ensures in
-    let same =
-    held_is mode (vec_items c.extend_from_slice.new.self) c.fill.new.self a.occupancy a.tis a.data a.rate a.plan.now
-    a.lift a.rows a.columns a.exponents.now judged.1 written f.lift f.rows f.columns f.exponents in
-    let view = held (Some mode) (vec_items c.extend_from_slice.new.self) c.fill.new.self in
-    record {
-      known = holds view b Passes1 same p.0.0.0.0.0.0.0;
-      whole = holds view b Passes2 same p.0.0.0.0.0.0.1;
-      bytes = holds view b Passes3 same p.0.0.0.0.0.1;
-      streams = holds view b Passes4 same p.0.0.0.0.1;
-      shape = holds view b Passes5 same p.0.0.0.1;
-      below = holds view b NoneBelow same (λ k h. (p.0.0.1 k h).0);
-      above = holds view b NoneAbove same (λ k h. (p.0.0.1 k h).1);
-      block = holds view b Passes7 same p.0.1;
-      cells = holds view b Passes8 same p.1;
-      room = omega arith;
-    }
+    let plan = vec_items c.write_plan.new.plan in
+    let code = c.fill.new.self in
+    let forms : Forms code.shape a = search rules in
+    let same = held_is mode plan code a judged.1 forms c.write_plan.ensures.kinds c.fill.ensures.exponents in
+    record { passed = holds (held (Some mode) plan code) a Pass8 same judged.0; room = omega arith }

@@ -8,7 +8,7 @@ returns-then-not-checks_hold c =
     let code = c.args.self.now in (
       refl,
       λ m e w.
-          let hold = c.checks_hold.ensures.words.1 (word_from_within code.lift code.rows code.columns (vec_items code.exponents) c.args.given.now c.requires.size m e w) in
+          let hold = c.checks_hold.ensures.words.1 (word_from_within code.shape.lift code.shape.rows code.shape.columns (vec_items code.exponents) c.args.given.now c.requires.size m e w) in
           both_ways c.checks_hold.result c.if-not-checks_hold.true (c.checks_hold.ensures.checks.1 hold),
     )
 
@@ -16,6 +16,6 @@ pub returns : goal.returns
 returns c =
     let code = c.args.self.now in
     let word = c.checks_hold.ensures.words.0 (c.checks_hold.ensures.checks.0 c.if-not-checks_hold.false) in
-    let whole : c.message_length.result - 0 ≡ code.columns * code.lift = omega arith in
-    let front : c.copy_from_slice.new.self ≡ take (code.columns * code.lift) c.args.given.now = rw whole at c.copy_from_slice.ensures.after in
-    within_from_word code.lift code.rows code.columns (vec_items code.exponents) c.args.given.now c.requires.size c.copy_from_slice.new.self front word
+    let whole : c.message_length.result - 0 ≡ code.shape.columns * code.shape.lift = omega arith in
+    let front : c.copy_from_slice.new.self ≡ take (code.shape.columns * code.shape.lift) c.args.given.now = rw whole at c.copy_from_slice.ensures.after in
+    within_from_word code.shape.lift code.shape.rows code.shape.columns (vec_items code.exponents) c.args.given.now c.requires.size c.copy_from_slice.new.self front word

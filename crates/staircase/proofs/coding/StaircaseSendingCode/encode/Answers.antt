@@ -8,4 +8,4 @@ returns c =
     let message = c.args.message.now in
     rw c.write_checks.ensures (
     two_parts message c.args.out.now _ c.copy_from_slice.new.self c.copy_from_slice.ensures.after
-    (omega (arith, c.requires.size, c.requires.room, add-mul code.columns code.rows code.lift)))
+    (omega (arith, c.requires.size, c.requires.room, add-mul code.shape.columns code.shape.rows code.shape.lift)))
