@@ -5,7 +5,8 @@ use Rattle.reed_solomon.specs.Generators.{generator_of}
 use Rattle.reed_solomon.specs.Words.{added, divide_step, divided, word_of}
 use Rattle.bits.specs.Bits.{bits_of, number_of, cut, spread}
 use Rattle.bits.specs.Crc.{registered, crc_of}
-use Rattle.streams.specs.Mis.{mis_fields, mis_record}
+use Rattle.streams.specs.Mis.{mis_fields}
+use Rattle.streams.specs.Records.{with_check}
 use Rattle.bits.specs.Scrambling.{earlier, scrambled}
 use Rattle.packets.specs.Packets.{header_bits}
 use Rattle.staircase.specs.Staircase.{check_at, row_sum}
@@ -14,7 +15,7 @@ use Rattle.figures.proofs.printed_mis.Goals as goal
 
 -- each figure by computation
 figures : Printed
-unfolding check_at row_sum header_bits mapped alpha raised times_low times generator_of added divide_step divided word_of bits_of number_of cut spread registered crc_of mis_fields mis_record earlier scrambled
+unfolding check_at row_sum header_bits mapped alpha raised times_low times generator_of added divide_step divided word_of bits_of number_of cut spread registered crc_of mis_fields with_check earlier scrambled
 figures =
     record {
       product = refl;
