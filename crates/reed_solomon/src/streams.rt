@@ -1,4 +1,7 @@
 // The codes of the streams of the modulation and of the transmitter information.
+ghost use Rattle.std.specs.Prelude.{◌≡◌};
+ghost use Rattle.reed_solomon.specs.Generators.{generator_of};
+
 use crate::code::ReedSolomon;
 
 // RS(4,2): two symbols and two check symbols; one wrong symbol is mended.
@@ -9,13 +12,17 @@ pub type TisReedSolomon = ReedSolomon<20, 9, 29>;
 
 // (X + α)(X + α^2) = X^2 + 6·X + 8
 #[tactic(auto, unfolding(crate::specs::Field::alpha, crate::specs::Field::raised, crate::specs::Words::added, crate::specs::Generators::generator_of))]
-pub fn mis() -> MisReedSolomon {
+pub fn mis() -> MisReedSolomon
+    ensures { result.generator ≡ generator_of 2 }
+{
     ReedSolomon { generator: [6, 8] }
 }
 
 // (X + α)(X + α^2)…(X + α^20)
 #[tactic(auto, unfolding(crate::specs::Field::alpha, crate::specs::Field::raised, crate::specs::Words::added, crate::specs::Generators::generator_of))]
-pub fn tis() -> TisReedSolomon {
+pub fn tis() -> TisReedSolomon
+    ensures { result.generator ≡ generator_of 20 }
+{
     ReedSolomon {
         generator: [
             37, 118, 58, 76, 24, 59, 127, 39, 90, 39, 101, 98, 48, 29, 50, 38, 41, 16, 56, 66,
