@@ -1,10 +1,13 @@
 -- Laws of numbers as bits, highest bit first.
-use Rattle.std.proofs.Common.{◌≡◌, ℕ, zero, suc, ◌+◌, ◌-◌, ◌*◌, ◌/◌, ◌%◌, ◌^◌, ◌<◌, ◌≤◌, Bool, true, false, eqb, List, [], ◌∷◌, ◌++◌, length, get_or, take, drop, set, sym, refl, ap, ◌∙◌, inl, inr, mod-lt, mod-eq_of_lt, mul_assoc, suc-mul, mul_comm, add-mul, add_comm, suc-add, pow-suc, zero-add, zero-mul, mul-suc, add-one, one-add, arith, lit<, pow_mono, shr-shr}
+use Rattle.std.proofs.Common.{take-add, ◌≡◌, ℕ, zero, suc, ◌+◌, ◌*◌, ◌/◌, ◌%◌, ◌^◌, ◌<◌, ◌≤◌, Bool, true, false, eqb, List, [], ◌∷◌, ◌++◌, length, get_or, take, drop, set, sym, refl, ap, ◌∙◌, inl, inr, mod-lt, mod-eq_of_lt, mul_assoc, suc-mul, mul_comm, add-mul, add_comm, pow-suc, zero-add, zero-mul, mul-suc, add-one, one-add, arith, lit<, pow_mono, pow_pos, bit_or}
 use native.Mathlib.Nat.{mod-one, mul-add-mod_self_right}
 use borrow.Rule.Slice.PartMut.{put_mid}
 use mir.Val.{bool_byte}
 use lib.Pow.{mod-pow-add, high}
-use Rattle.std.proofs.lemmas.List.{append_assoc, append-nil, take_more, drop_at, drop-drop, drop_more, set_at, drop-set, length-append, length-drop, length_push, length-take, length-take-le, take_all, take_at}
+use Rattle.std.proofs.Math.Nat.{mul-le-mul_left, mul-le-mul_right}
+use Rattle.std.specs.List.{fold}
+use Rattle.std.proofs.lemmas.Nat.{or_shifted}
+use Rattle.std.proofs.lemmas.List.{append_assoc, append-nil, take_more, drop_at, drop-drop, drop_more, set_at, length-append, length-drop, length-take, length-take-le, take_at}
 use Rattle.std.proofs.lemmas.Bool.{cases_eq, ne_eqb, eq-eqb}
 use Rattle.codes.specs.Symbols.{bit_number, Below128}
 use Rattle.bits.specs.Bits.{AllBelow, bits_of, number_of, field_at, cut, spread}
@@ -14,7 +17,7 @@ unfolding bits_of
 length-bits_of zero v = refl
 length-bits_of (suc w) v = ap suc (length-bits_of w v)
 
-pub number-below : (b : Bool) → bit_number b < 2
+number-below : (b : Bool) → bit_number b < 2
 number-below true = lit< tt
 number-below false = lit< tt
 
@@ -46,7 +49,7 @@ field_below place w bits =
     omega (arith, number_of-below part)
 
 -- w bits hold a number up to multiples of 2 ^ w
-pub number_of-bits_of-mod : (w v : ℕ) → number_of (bits_of w v) ≡ v % 2 ^ w
+number_of-bits_of-mod : (w v : ℕ) → number_of (bits_of w v) ≡ v % 2 ^ w
 unfolding number_of bits_of
 number_of-bits_of-mod zero v = sym (mod-one v)
 number_of-bits_of-mod (suc w) v =
@@ -60,7 +63,7 @@ odd_bit c true = rw (mul-add-mod_self_right c 2 1)
 odd_bit c false = rw (mul-add-mod_self_right c 2 0)
 
 -- the bits of bs come back whatever stands above them
-pub bits_of-above : (bs : List Bool) (c : ℕ) → bits_of (length bs) (c * 2 ^ length bs + number_of bs) ≡ bs
+bits_of-above : (bs : List Bool) (c : ℕ) → bits_of (length bs) (c * 2 ^ length bs + number_of bs) ≡ bs
 unfolding number_of bits_of
 bits_of-above [] c = refl
 bits_of-above (b ∷ bs) c =
@@ -79,40 +82,33 @@ field_back w n part size e = rw (size, e) at (bits_of-number_of part)
 pub field_bits : (place w : ℕ) (bits : List Bool) → place + w ≤ length bits → bits_of w (field_at place w bits) ≡ take w (drop place bits)
 field_bits place w bits h = field_back w (field_at place w bits) (take w (drop place bits)) (part_length bits place w h) refl
 
--- one bit more at the end
-pub number_of_push : (bs : List Bool) (b : Bool) → number_of (bs ++ b ∷ []) ≡ number_of bs * 2 + bit_number b
-unfolding number_of
-number_of_push [] b = omega arith
-number_of_push (x ∷ xs) b =
-    rw (length_push xs b, add-one, pow-suc, number_of_push xs b)
-    (omega (arith, mul_assoc (bit_number x) (2 ^ length xs) 2, add-mul (bit_number x * 2 ^ length xs) (number_of xs) 2))
-
--- a front of at most 31 bits, and one bit more
-pub front_below : (bs : List Bool) (i : ℕ) → i < length bs → length bs ≤ 32 → number_of (take i bs) * 2 + 1 < 2 ^ 32
-front_below bs i h k =
-    let e : length (take i bs) ≡ i = length-take-le i bs (omega arith) in
-    let q : i ≤ 31 = omega arith in
-    let p : 2 ^ i ≤ 2 ^ 31 = pow_mono q in
-    omega (arith, rw e at (number_of-below (take i bs)))
-
 -- a bit as the code widens it
-pub bool_byte_number : (b : Bool) → bool_byte b ≡ bit_number b
+bool_byte_number : (b : Bool) → bool_byte b ≡ bit_number b
 bool_byte_number true = refl
 bool_byte_number false = refl
 
--- writing from the last bit on: the place before `i` takes the last bit of what is left
-module _ (bits : List Bool) (i n value rest : ℕ) (some : 0 < i) (within : i ≤ n) (size : length bits ≡ n) (left : rest ≡ value / 2 ^ (n - i)) where
-  pub write_more : drop i bits ≡ bits_of (n - i) value → drop (i - 1) (set bits (i - 1) (eqb (rest % 2) 1)) ≡ bits_of (n - (i - 1)) value
-  unfolding bits_of
-  write_more done =
-      let e : n - (i - 1) ≡ suc (n - i) = omega arith in
-      let back : i - 1 + 1 ≡ i = omega arith in
-      rw (drop-set bits (i - 1) (eqb (rest % 2) 1) (omega arith), e, back, left, done)
+-- one bit more behind a number, with p places still to come
+one_more : (m n p : ℕ) (b : Bool) → 0 < p → (n + 1) * (p * 2) ≤ m → bit_or (n * 2 ^ 1 % m) (bool_byte b) ≡ n * 2 + bit_number b
+one_more m n p b some h =
+    let room = mul-le-mul_left (n + 1) some in
+    let small : n * 2 ^ 1 < m = omega arith in
+    rw (mod-eq_of_lt small, bool_byte_number b) (or_shifted n 1 (bit_number b) (number-below b))
 
-  pub rest_more : rest / 2 ≡ value / 2 ^ (n - (i - 1))
-  rest_more =
-      let e : n - (i - 1) ≡ n - i + 1 = omega arith in
-      rw (e, left) (shr-shr value (n - i) 1)
+-- reading bits behind a number
+number_from : (m n : ℕ) (bs : List Bool) → (n + 1) * 2 ^ length bs ≤ m → fold (λ k b. bit_or (k * 2 ^ 1 % m) (bool_byte b)) n bs ≡ n * 2 ^ length bs + number_of bs
+unfolding number_of
+number_from m n [] h = omega arith
+number_from m n (b ∷ bs) h =
+    let p = 2 ^ length bs in
+    let room : (n + 1) * (p * 2) ≤ m = rw pow-suc at h in
+    let wide : n * 2 + bit_number b + 1 ≤ n * 2 + 2 = omega (arith, number-below b) in
+    let next : (n * 2 + bit_number b + 1) * p ≤ m = omega (arith, mul-le-mul_right p wide, room) in
+    rw (one_more m n p b (pow_pos (length bs)) room, number_from m (n * 2 + bit_number b) bs next, pow-suc) (omega arith)
+
+pub number_read : (bs : List Bool) → length bs ≤ 32 → fold (λ k b. bit_or (k * 2 ^ 1 % 2 ^ 32) (bool_byte b)) 0 bs ≡ number_of bs
+number_read bs h =
+    let p : 2 ^ length bs ≤ 2 ^ 32 = pow_mono h in
+    simp (zero-mul, zero-add) at (number_from (2 ^ 32) 0 bs (omega arith))
 
 pub length_cut : (w n : ℕ) (bs : List Bool) → length (cut w n bs) ≡ n
 unfolding cut
@@ -126,7 +122,7 @@ length-spread w (x ∷ xs) =
     rw (length-append (bits_of w x) (spread w xs), length-bits_of w x, length-spread w xs, suc-mul (length xs) w) (omega arith)
 
 -- cutting gives back what was spread, whatever follows
-pub cut-spread_more : (w : ℕ) (xs : List ℕ) (more : List Bool) → AllBelow (2 ^ w) xs → cut w (length xs) (spread w xs ++ more) ≡ xs
+cut-spread_more : (w : ℕ) (xs : List ℕ) (more : List Bool) → AllBelow (2 ^ w) xs → cut w (length xs) (spread w xs ++ more) ≡ xs
 unfolding cut spread
 cut-spread_more w [] more h = refl
 cut-spread_more w (x ∷ xs) more h =
@@ -141,11 +137,6 @@ cut-spread_more w (x ∷ xs) more h =
 pub cut-spread : (w : ℕ) (xs : List ℕ) → AllBelow (2 ^ w) xs → cut w (length xs) (spread w xs) ≡ xs
 cut-spread w xs h = rw append-nil at (cut-spread_more w xs [] h)
 
-pub take_plus : (m n : ℕ) (bs : List Bool) → take (m + n) bs ≡ take m bs ++ take n (drop m bs)
-take_plus zero n bs = rw zero-add
-take_plus (suc m) n [] = rw suc-add (sym (take_all n [] (omega arith)))
-take_plus (suc m) n (b ∷ bs) = rw suc-add (ap (λ l. b ∷ l) (take_plus m n bs))
-
 -- spreading gives back the bits that were cut
 pub spread_cut : (w n : ℕ) (bs : List Bool) → n * w ≤ length bs → spread w (cut w n bs) ≡ take (n * w) bs
 unfolding cut spread
@@ -155,7 +146,7 @@ spread_cut w (suc n) bs h =
     let e : length (take w bs) ≡ w = length-take-le w bs (omega arith) in
     let k : n * w ≤ length (drop w bs) = rw length-drop (omega arith) in
     let whole : bits_of w (number_of (take w bs)) ≡ take w bs = rw e at (bits_of-number_of (take w bs)) in
-    rw (s, add_comm (n * w) w, take_plus w (n * w) bs, whole, spread_cut w n (drop w bs) k)
+    rw (s, add_comm (n * w) w, take-add w (n * w) bs, whole, spread_cut w n (drop w bs) k)
 
 -- every number that is cut fits its width
 pub cut_below : (w n : ℕ) (bs : List Bool) → AllBelow (2 ^ w) (cut w n bs)
@@ -169,7 +160,7 @@ unfolding Below128
 below_128 [] h = tt
 below_128 (x ∷ xs) h = (h.0, below_128 xs h.1)
 
-pub from_below_128 : (xs : List ℕ) → Below128 (λ x. x) xs → AllBelow 128 xs
+from_below_128 : (xs : List ℕ) → Below128 (λ x. x) xs → AllBelow 128 xs
 unfolding Below128
 from_below_128 [] h = tt
 from_below_128 (x ∷ xs) h = (h.0, from_below_128 xs h.1)
@@ -181,14 +172,14 @@ pub cut-spread_128 : (xs : List ℕ) (more : List Bool) → Below128 (λ x. x) x
 cut-spread_128 xs more h = cut-spread_more 7 xs more (from_below_128 xs h)
 
 -- one number more at the end
-pub cut_push : (w n : ℕ) (bs : List Bool) → cut w (n + 1) bs ≡ cut w n bs ++ number_of (take w (drop (n * w) bs)) ∷ []
+cut_push : (w n : ℕ) (bs : List Bool) → cut w (n + 1) bs ≡ cut w n bs ++ number_of (take w (drop (n * w) bs)) ∷ []
 unfolding cut
 cut_push w zero bs = rw zero-mul
 cut_push w (suc n) bs =
     rw (add-one, suc-mul n w, add_comm (n * w) w, ← drop-drop (n * w) w bs)
     (ap (λ l. number_of (take w bs) ∷ l) (rw add-one at (cut_push w n (drop w bs))))
 
-pub spread_push : (w : ℕ) (xs : List ℕ) (x : ℕ) → spread w (xs ++ x ∷ []) ≡ spread w xs ++ bits_of w x
+spread_push : (w : ℕ) (xs : List ℕ) (x : ℕ) → spread w (xs ++ x ∷ []) ≡ spread w xs ++ bits_of w x
 unfolding spread
 spread_push w [] x = append-nil (bits_of w x)
 spread_push w (y ∷ ys) x = rw (spread_push w ys x, append_assoc)
@@ -206,14 +197,19 @@ cut_more w bs entry xs i h e =
       append_assoc,
     )
 
+-- one part more, written behind what is written
+pub put_more : {X : Type 0} (front entry now part more : List X) (a k b : ℕ) → length front ≡ a → a + k ≡ b → now ≡ front ++ drop a entry → part ≡ more →
+    put_mid a k now part ≡ front ++ more ++ drop b entry
+put_more front entry now part more a k b size end e same =
+    rw (e, same, take_at front (drop a entry) a size, drop_at front (drop a entry) a size, drop-drop k a entry, end, append_assoc)
+
 -- one field more, written behind what is written
 pub field_more : (front entry bits part : List Bool) (a k v n : ℕ) → length front ≡ a → a + k ≤ length entry → bits ≡ front ++ drop a entry →
     part ≡ bits_of (length (take k (drop a bits))) n → n ≡ v → put_mid a k bits part ≡ front ++ bits_of k v ++ drop (a + k) entry
 field_more front entry bits part a k v n size room e p same =
     let rest : drop a bits ≡ drop a entry = rw e (drop_at front (drop a entry) a size) in
-    let long : length (take k (drop a entry)) ≡ k = simp (length-take, length-drop) (omega arith) in
-    let written : part ≡ bits_of k v = rw (rest, long, same) at p in
-    rw (rest, written, e, take_at front (drop a entry) a size, drop-drop k a entry, append_assoc)
+    let long : length (take k (drop a entry)) ≡ k = part_length entry a k room in
+    put_more front entry bits part (bits_of k v) a k (a + k) size refl e (rw (rest, long, same) at p)
 
 -- one number more, written over its bits
 pub spread_more : (w : ℕ) (xs : List ℕ) (entry bits part : List Bool) (i n : ℕ) → i < length xs → w * i + w ≤ length entry →

@@ -23,7 +23,7 @@ number-times-below : (f : Bool) (p m : ℕ) → p < m → bit_number f * p < m
 number-times-below true p m h = rw one-mul h
 number-times-below false p m h = omega arith
 
-pub stepped-below : (w p register : ℕ) (b : Bool) → p < 2 ^ w → stepped w p register b < 2 ^ w
+stepped-below : (w p register : ℕ) (b : Bool) → p < 2 ^ w → stepped w p register b < 2 ^ w
 stepped-below w p register b h =
     xor_lt w (register * 2 % 2 ^ w) (bit_number (feedback w register b) * p) (mod-lt (register * 2) (pow_pos w))
     (number-times-below (feedback w register b) p (2 ^ w) h)
@@ -111,13 +111,9 @@ unfolding registered
 registered_push w p register [] b = refl
 registered_push w p register (x ∷ xs) b = registered_push w p (stepped w p register x) xs b
 
--- nothing is fed back
-pub stepped_still : (w p register : ℕ) (b : Bool) → feedback w register b ≡ false → stepped w p register b ≡ register * 2 % 2 ^ w
-stepped_still w p register b e = ap (λ f. bit_xor (register * 2 % 2 ^ w) (bit_number f * p)) e ∙ simp (zero-mul, xor_zero_r)
-
-pub crc_below : (w p : ℕ) (bits : List Bool) (r : ℕ) → r ≡ crc_of w p bits → r < 2 ^ w
+pub crc_below : (w p : ℕ) (bits : List Bool) → crc_of w p bits < 2 ^ w
 unfolding crc_of
-crc_below w p bits r e = rw e (ones_sub-lt w (registered w p (2 ^ w - 1) bits))
+crc_below w p bits = ones_sub-lt w (registered w p (2 ^ w - 1) bits)
 
 -- a power of two as the code shifts it
 pub shifted_one : (w : ℕ) → w ≤ 31 → (1 * 2 ^ w) % 2 ^ 32 ≡ 2 ^ w

@@ -1,6 +1,6 @@
 -- The sequence of the scrambling, and that scrambling twice gives back the bits.
 use Rattle.std.proofs.Common.{◌≡◌, ℕ, zero, suc, ◌+◌, ◌-◌, ◌<◌, ◌≤◌, Bool, true, false, List, [], ◌∷◌, ◌++◌, length, get_or, take, drop, set, sym, refl, ap, ◌∙◌, add-zero, add-suc, suc-add, zero-add, add-one, arith}
-use Rattle.std.proofs.lemmas.List.{append_assoc, drop_all, drop_more, get_or_at, get_or-replicate, get_or-take, length-take-le, set_at, take_more}
+use Rattle.std.proofs.lemmas.List.{append_assoc, drop_more, get_or_at, get_or-replicate, get_or-take, length-take-le, set_at, take_more}
 use Rattle.bits.specs.Bits.{◌⊕◌}
 use Rattle.bits.specs.Scrambling.{following, earlier, scrambled, Scrambling}
 
@@ -67,7 +67,7 @@ scrambling bs =
     }
 
 -- one bit more at the end
-pub scrambled_push : (n : ℕ) (bs : List Bool) (b : Bool) → scrambled n (bs ++ b ∷ []) ≡ scrambled n bs ++ (b ⊕ following (earlier (n + length bs))) ∷ []
+scrambled_push : (n : ℕ) (bs : List Bool) (b : Bool) → scrambled n (bs ++ b ∷ []) ≡ scrambled n bs ++ (b ⊕ following (earlier (n + length bs))) ∷ []
 unfolding scrambled
 scrambled_push n [] b = rw add-zero
 scrambled_push n (x ∷ xs) b = rw (add-suc n (length xs), ← suc-add n (length xs)) (ap (λ l. (x ⊕ following (earlier n)) ∷ l) (scrambled_push (suc n) xs b))
@@ -91,15 +91,6 @@ scrambled_more entry bits i h e =
       zero-add,
       append_assoc,
     )
-
--- the oldest value makes room for the newest
-pub renewed : (values rotated : List Bool) (b : Bool) → length values ≡ 9 → rotated ≡ drop (length values - 1) values ++ take (length values - 1) values →
-    set rotated 0 b ≡ b ∷ take 8 values
-renewed values rotated b n e =
-    let eight : length values - 1 ≡ 8 = omega arith in
-    let one = drop_more values 8 false (omega arith) in
-    let none = drop_all 9 values (omega arith) in
-    rw (e, eight, one, none)
 
 pub earlier_more : (n : ℕ) → following (earlier n) ∷ take 8 (earlier n) ≡ earlier (n + 1)
 unfolding earlier

@@ -54,6 +54,7 @@ const GENERATOR_16: Generator = Generator {
 };
 
 // The check of eight bits over `bits`.
+#[tactic(auto, using(crate::proofs::Remainders::crc_below))]
 pub fn crc8(bits: &[bool]) -> u8
     ensures value { result ≡ crc8_of bits.now }
     ensures remainder { IsRemainder 8 29 bits.now (255 - result) }
@@ -61,7 +62,8 @@ pub fn crc8(bits: &[bool]) -> u8
     GENERATOR_8.crc(bits) as u8
 }
 
-/// The check of sixteen bits over `bits`.
+// The check of sixteen bits over `bits`.
+#[tactic(auto, using(crate::proofs::Remainders::crc_below))]
 pub fn crc16(bits: &[bool]) -> u16
     ensures value { result ≡ crc16_of bits.now }
     ensures remainder { IsRemainder 16 4129 bits.now (65535 - result) }

@@ -7,10 +7,11 @@ pub fn write_number(value: u32, bits: &mut [bool])
     ensures { bits.new ≡ bits_of (length bits.old) value }
 {
     let mut rest = value;
-    for i in (0..bits.len()).rev() {
-        bits[i] = rest % 2 == 1;
+    for bit in bits.iter_mut() {
+        *bit = rest % 2 == 1;
         rest /= 2;
     }
+    bits.reverse();
 }
 
 // The number that `bits` write.
@@ -18,9 +19,6 @@ pub fn read_number(bits: &[bool]) -> u32
     requires { length bits.now ≤ 32 }
     ensures { result ≡ number_of bits.now }
 {
-    let mut number = 0;
-    for bit in bits {
-        number = number * 2 + u32::from(*bit);
-    }
-    number
+    bits.iter()
+        .fold(0, |number, bit| number << 1 | u32::from(*bit))
 }

@@ -4,7 +4,7 @@ ghost use Rattle.bits.specs.Bits.{cut, spread};
 
 use crate::fields::{read_number, write_number};
 
-/// Fills `numbers` from the first bits, `WIDTH` to a number; further bits are ignored.
+// Fills `numbers` from the first bits, `WIDTH` to a number; further bits are ignored.
 pub fn cut<const WIDTH: usize>(bits: &[bool], numbers: &mut [u8])
     requires width { WIDTH ≤ 8 }
     requires room { WIDTH * length numbers.old ≤ length bits.now }
@@ -16,7 +16,7 @@ pub fn cut<const WIDTH: usize>(bits: &[bool], numbers: &mut [u8])
     }
 }
 
-/// Writes the numbers one after the other, `WIDTH` bits to a number.
+// Writes the numbers one after the other, `WIDTH` bits to a number.
 pub fn spread<const WIDTH: usize>(numbers: &[u8], bits: &mut [bool])
     requires { length bits.old ≡ WIDTH * length numbers.now }
     ensures { bits.new ≡ spread WIDTH numbers.now }

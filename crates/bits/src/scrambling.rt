@@ -9,6 +9,7 @@ struct Sequence {
 }
 
 impl Sequence {
+    #[tactic(auto, unfolding(crate::specs::Scrambling::earlier))]
     fn new() -> Self
         ensures { result.earlier ≡ earlier_at 0 }
     {

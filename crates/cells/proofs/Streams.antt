@@ -3,13 +3,13 @@ use Rattle.std.proofs.Common.{◌≡◌, ℕ, zero, suc, ◌+◌, ◌-◌, ◌*�
 use native.Mathlib.Nat.{sub-zero, zero-sub}
 use borrow.Rule.Slice.PartMut.{put_mid}
 use lib.ListN.{length-replicate}
-use Rattle.std.proofs.lemmas.List.{append_assoc, append-nil, drop_all, drop_at, drop-drop, drop_more, flat_map_more, set_at, take_all, take_more, take-append-drop, take_at, take_rest}
+use Rattle.std.proofs.lemmas.List.{append_assoc, append-nil, drop_at, drop_min, drop-drop, drop_more, flat_map_more, set_at, take_all, take_more, take-append-drop, take_at, take_rest}
 use Rattle.std.proofs.lemmas.Bool.{cases_lt}
 use Rattle.cells.specs.declared.cell.Cell.{Cell}
 use Rattle.cells.specs.Cells.{Steady}
 use Rattle.cells.specs.Mapping.{decided_bits, filled, mapped, Moved, next_cell}
 
-pub take-append : {X : Type 0} (n : ℕ) (xs ys : List X) → take n (xs ++ ys) ≡ take n xs ++ take (n - length xs) ys
+take-append : {X : Type 0} (n : ℕ) (xs ys : List X) → take n (xs ++ ys) ≡ take n xs ++ take (n - length xs) ys
 take-append zero xs ys = rw zero-sub
 take-append (suc n) [] ys = rw sub-zero
 take-append (suc n) (x ∷ xs) ys =
@@ -20,27 +20,13 @@ pub written_more : {X : Type 0} (front xs : List X) (i : ℕ) (y : X) → length
 written_more front xs i y e h =
     rw (drop_more xs i y, set_at front (get_or xs i y) (drop (i + 1) xs) y i e, append_assoc)
 
-pub take_within : {X : Type 0} (k n : ℕ) (xs : List X) → k ≡ min (length xs) n → take k xs ≡ take n xs
-take_within k n xs e =
-    elim (cases_lt (length xs) n) [
-      | inl all ↦ take_all k xs (omega arith) ∙ sym (take_all n xs (omega arith))
-      | inr part ↦ let same : k ≡ n = omega arith in rw same
-    ]
-
-pub drop_within : {X : Type 0} (k n : ℕ) (xs : List X) → k ≡ min (length xs) n → drop k xs ≡ drop n xs
-drop_within k n xs e =
-    elim (cases_lt (length xs) n) [
-      | inl all ↦ drop_all k xs (omega arith) ∙ sym (drop_all n xs (omega arith))
-      | inr part ↦ let same : k ≡ n = omega arith in rw same
-    ]
-
 -- a loop that writes one part after the other
-pub part_written : {X : Type 0} (front xs part : List X) (a k : ℕ) → length front ≡ a → put_mid a k (front ++ drop a xs) part ≡ (front ++ part) ++ drop (a + k) xs
+part_written : {X : Type 0} (front xs part : List X) (a k : ℕ) → length front ≡ a → put_mid a k (front ++ drop a xs) part ≡ (front ++ part) ++ drop (a + k) xs
 part_written front xs part a k e =
     rw (take_at front (drop a xs) a e, drop_at front (drop a xs) a e, drop-drop, append_assoc)
 
 -- the first bits of two blocks, where `done` of them stand in the first
-pub take_blocks : (first second : List Bool) (count done part : ℕ) → done ≡ min count (length first) → part ≡ min (length second) (count - done) → take (done + part) (first ++ second) ≡ take done first ++ take part second
+take_blocks : (first second : List Bool) (count done part : ℕ) → done ≡ min count (length first) → part ≡ min (length second) (count - done) → take (done + part) (first ++ second) ≡ take done first ++ take part second
 take_blocks first second count done part d p =
     elim (cases_lt (length first) count) [
       | inl more ↦
@@ -63,29 +49,26 @@ module _ (decided : Cell → List Bool) (width : ℕ) (sized : (x : Cell) → le
   length-decided [] = rw mul-zero
   length-decided (x ∷ cells) = rw (length-append, sized, length-decided cells) (omega (arith, mul-suc width (length cells)))
 
-  -- one more cell decided, of which `part` bits are wanted
-  pub part_decided : (cells : List Cell) (before bits written : List Bool) (i done part k : ℕ) (d : Cell) → i < length cells → done ≡ min (length before) (width * i) → part ≡ min width (length before - done) → k ≡ part → bits ≡ take done (decided_bits decided (take i cells)) ++ drop done before → written ≡ take part (decided (get_or cells i d)) → put_mid done k bits written ≡ take (done + part) (decided_bits decided (take (i + 1) cells)) ++ drop (done + part) before
-  part_decided cells before bits written i done part k d h d-is p-is k-is b-is w-is =
+  -- one more cell decided, whose bits go from `start` to `end`
+  pub part_decided : (cells : List Cell) (before bits written : List Bool) (i start end : ℕ) (d : Cell) → i < length cells → start ≡ min (length before) (width * i) → end ≡ min (length before) (start + width) → bits ≡ take start (decided_bits decided (take i cells)) ++ drop start before → written ≡ take (end - start) (decided (get_or cells i d)) → put_mid start (end - start) bits written ≡ take end (decided_bits decided (take (i + 1) cells)) ++ drop end before
+  part_decided cells before bits written i start end d h start-is end-is b-is w-is =
       let first = decided_bits decided (take i cells) in
       let second = decided (get_or cells i d) in
       let count : length (take i cells) ≡ i = simp length-take (omega arith) in
       let long : length first ≡ width * i = length-decided (take i cells) ∙ ap (λ (n : ℕ). width * n) count in
       let wide : length second ≡ width = sized (get_or cells i d) in
-      let front : length (take done first) ≡ done = simp length-take (omega arith) in
-      let both = take_blocks first second (length before) done part (omega arith) (omega arith) in
-      rw (k-is, b-is, part_written (take done first) before written done part front, w-is, decided_more decided cells i d h, both)
+      let front : length (take start first) ≡ start = simp length-take (omega arith) in
+      let whole : start + (end - start) ≡ end = omega arith in
+      let both = rw whole at (take_blocks first second (length before) start (end - start) (omega arith) (omega arith)) in
+      rw (b-is, part_written (take start first) before written start (end - start) front, w-is, whole, decided_more decided cells i d h, both)
 
 module _ (point : List Bool → Cell) (width : ℕ) where
-  pub mapped_none : (bits : List Bool) → mapped point width 0 bits ≡ []
-  unfolding mapped
-  mapped_none bits = refl
-
-  pub length-mapped : (count : ℕ) (bits : List Bool) → length (mapped point width count bits) ≡ count
+  length-mapped : (count : ℕ) (bits : List Bool) → length (mapped point width count bits) ≡ count
   unfolding mapped
   length-mapped zero bits = refl
   length-mapped (suc count) bits = ap suc (length-mapped count (drop width bits))
 
-  pub mapped_more : (i : ℕ) (bits : List Bool) → mapped point width (i + 1) bits ≡ mapped point width i bits ++ next_cell point width (drop (width * i) bits) ∷ []
+  mapped_more : (i : ℕ) (bits : List Bool) → mapped point width (i + 1) bits ≡ mapped point width i bits ++ next_cell point width (drop (width * i) bits) ∷ []
   unfolding mapped
   mapped_more zero bits = rw mul-zero
   mapped_more (suc i) bits =
@@ -103,13 +86,13 @@ module _ (point : List Bool → Cell) (width : ℕ) where
       rw (c-is, written_more (mapped point width i bits) before i x (length-mapped i bits) h, x-is, mapped_more i bits)
 
   -- what is left of a stream after one more cell
-  pub rest_left : (bits rest : List Bool) (i k : ℕ) → k ≡ min (length rest) width → rest ≡ drop (width * i) bits → take (length rest - k) (drop k rest) ≡ drop (width * (i + 1)) bits
+  pub rest_left : (bits rest : List Bool) (i k : ℕ) → k ≡ min width (length rest) → rest ≡ drop (width * i) bits → take (length rest - k) (drop k rest) ≡ drop (width * (i + 1)) bits
   rest_left bits rest i k k-is r-is =
       let next : width * i + width ≡ width * (i + 1) = omega (arith, mul-add width i 1) in
-      take_rest rest k ∙ drop_within k width rest k-is ∙ ap (drop width) r-is ∙
+      take_rest rest k ∙ ap (λ (n : ℕ). drop n rest) k-is ∙ drop_min width rest ∙ ap (drop width) r-is ∙
       drop-drop width (width * i) bits ∙ ap (λ (n : ℕ). drop n bits) next
 
-  pub length-filled : (bits : List Bool) → length (filled width bits) ≡ width
+  length-filled : (bits : List Bool) → length (filled width bits) ≡ width
   length-filled bits = simp (length-append, length-take, length-replicate) (omega arith)
 
   -- the bits sent in one cell, and what follows them

@@ -3,14 +3,22 @@ ghost use Rattle.std.specs.Prelude.{◌≡◌, ◌+◌, ◌^◌, ◌≤◌};
 ghost use Rattle.cells.specs.Cells.{axis_bits, cell_bits};
 
 // A point of the plane; one unit length is 256.
-#[derive(Clone, Copy, PartialEq, Debug)]
+#[derive(Clone, Copy, PartialEq, Eq, Debug)]
 pub struct Cell {
     pub real: i16,
     pub imaginary: i16,
 }
 
+impl Cell {
+    // (0, 0)
+    pub const ORIGIN: Cell = Cell {
+        real: 0,
+        imaginary: 0,
+    };
+}
+
 // The order of a modulation: how many points its constellation has.
-#[derive(Clone, Copy, PartialEq, Debug)]
+#[derive(Clone, Copy, PartialEq, Eq, Debug)]
 pub enum Order {
     Four,
     Sixteen,
@@ -40,10 +48,6 @@ impl Order {
         ensures number { result + 1 ≡ 2 ^ axis_bits self }
         ensures bounds { (1 ≤ result) × (result ≤ 7) }
     {
-        match self {
-            Order::Four => 1,
-            Order::Sixteen => 3,
-            Order::SixtyFour => 7,
-        }
+        (1 << self.axis_bits()) - 1
     }
 }

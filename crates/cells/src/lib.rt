@@ -8,5 +8,5 @@ mod qam;
 
 pub use cell::{Cell, Order};
 pub use constellation::Constellation;
-pub use mapping::{decide_bits, map_bits};
+pub use mapping::Modulation;
 pub use qam::{Qam, amplitude, decide_axis};

@@ -22,11 +22,7 @@ fn amplitude_of(order: Order, v: u8) -> i16
 pub fn amplitude(order: Order, v: u8) -> Option<i16>
     ensures { result ≡ amplitude_of (axis_bits order) v }
 {
-    if v <= order.largest() {
-        Some(amplitude_of(order, v))
-    } else {
-        None
-    }
+    (v <= order.largest()).then(|| amplitude_of(order, v))
 }
 
 // How far `x` lies below the largest amplitude.
@@ -51,11 +47,7 @@ fn low_first(bits: &[bool]) -> u8
     requires { length bits.now ≤ 8 }
     ensures { result ≡ low_first bits.now }
 {
-    let mut v = 0;
-    for i in (0..bits.len()).rev() {
-        v = u8::from(bits[i]) + 2 * v;
-    }
-    v
+    bits.iter().rev().fold(0, |v, bit| v << 1 | u8::from(*bit))
 }
 
 // Writes the bits of `v`, the lowest first.
@@ -107,7 +99,7 @@ impl Constellation for Qam {
 
     fn decide(&self, order: Order, cell: Cell, bits: &mut [bool]) {
         let m = order.axis_bits();
-        write_low_first(decide_axis(order, cell.real), &mut bits[0..m]);
+        write_low_first(decide_axis(order, cell.real), &mut bits[..m]);
         write_low_first(decide_axis(order, cell.imaginary), &mut bits[m..]);
     }
 }

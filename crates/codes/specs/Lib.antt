@@ -1,2 +1,3 @@
 pub mod Symbols
 pub mod Mending
+pub mod SymbolsLemmas

@@ -1,64 +1,25 @@
 -- Rows of flags, and bytes written into others.
-use Rattle.std.proofs.Common.{◌≡◌, ℕ, zero, suc, ◌+◌, ◌-◌, ◌*◌, ◌<◌, ◌≤◌, Bool, true, false, ◌&&◌, ◌||◌, List, [], ◌∷◌, ◌++◌, length, get_or, take, drop, replicate, Option, sym, refl, ap, ◌∙◌, arith}
-use Rattle.std.proofs.lemmas.List.{at_drop_more, nil_from_length, length-take, get_or-drop, get_or-take, get_or_append_left, get_or-append_right, length-take-le, length-append, length-drop}
-use Rattle.std.proofs.lemmas.Bool.{and_from, and_left, and_parts, or_from, or_left, or_parts, leb-false, ltb-false}
-use Rattle.messages.specs.CollectorCalls.{all_true, any_true, misplaced, written}
-use Rattle.packets.specs.Packets.{Content}
-
-pub false_since : (b : Bool) → (b ≡ true → ⊥) → b ≡ false
-false_since true h = absurd (h refl)
-false_since false h = refl
+use Rattle.std.proofs.Common.{◌≡◌, ℕ, ◌+◌, ◌-◌, ◌<◌, ◌≤◌, Bool, true, false, List, ◌++◌, length, get_or, take, drop, refl, ap, ◌∙◌, arith, sym, length-take}
+use Rattle.std.proofs.lemmas.List.{get_or-drop, get_or-take, get_or_append_left, get_or-append_right, length-take-le, length-append, length-drop}
+use Rattle.std.proofs.lemmas.List.Elements.{All-from_get_or, All-get_or}
+use Rattle.std.proofs.lemmas.List.Folds.{list_any_none}
+use Rattle.std.proofs.lemmas.List.Sums.{AllPass-from_list_all, list_all-from_AllPass}
+use Rattle.messages.specs.CollectorCalls.{all_true, any_true, written}
 
 pub all_true_lem : (n : ℕ) (xs : List Bool) → ((i : ℕ) → i < n → get_or xs i false ≡ true) → all_true (take n xs) ≡ true
-all_true_lem zero xs h = refl
-all_true_lem (suc n) [] h = refl
-all_true_lem (suc n) (x ∷ xs) h = and_from x (all_true (take n xs)) (h 0 (omega arith)) (all_true_lem n xs (λ i l. h (suc i) (omega arith)))
+all_true_lem n xs h =
+    list_all-from_AllPass (λ b. b) (take n xs) (All-from_get_or (λ b. b ≡ true) (take n xs) false
+    (λ i l. let k : i < n = omega (arith, length-take n xs) in get_or-take n xs i false k ∙ h i k))
 
 pub all_true_at : (n : ℕ) (xs : List Bool) (i : ℕ) → all_true (take n xs) ≡ true → n ≤ length xs → i < n → get_or xs i false ≡ true
-all_true_at zero xs i e h l = absurd (omega arith)
-all_true_at (suc n) [] i e h l = absurd (omega arith)
-all_true_at (suc n) (x ∷ xs) zero e h l = (and_parts x (all_true (take n xs)) e).0
-all_true_at (suc n) (x ∷ xs) (suc i) e h l = all_true_at n xs i (and_parts x (all_true (take n xs)) e).1 (omega arith) (omega arith)
-
-any_none : (xs : List Bool) → ((i : ℕ) → get_or xs i false ≡ false) → any_true xs ≡ false
-any_none [] h = refl
-any_none (x ∷ xs) h = or_from x (any_true xs) (h 0) (any_none xs (λ i. h (suc i)))
+all_true_at n xs i e h l =
+    sym (get_or-take n xs i false l)
+    ∙ All-get_or (λ b. b ≡ true) (take n xs) i false (omega (arith, length-take n xs)) (AllPass-from_list_all (λ b. b) (take n xs) e)
 
 -- no flag from n on
 pub none_from : (n : ℕ) (xs : List Bool) → ((i : ℕ) → n ≤ i → get_or xs i false ≡ false) → any_true (drop n xs) ≡ false
-none_from n xs h = any_none (drop n xs) (λ i. get_or-drop n xs i false ∙ h (n + i) (omega arith))
-
-module _ (xs : List Bool) (i : ℕ) (within : i < length xs) where
-  all_at : all_true (drop i xs) ≡ (get_or xs i false && all_true (drop (i + 1) xs))
-  all_at = at_drop_more all_true xs i false within
-
-  any_at : any_true (drop i xs) ≡ (get_or xs i false || any_true (drop (i + 1) xs))
-  any_at = at_drop_more any_true xs i false within
-
-  pub all_stop : get_or xs i false ≡ false → all_true (drop i xs) ≡ all_true xs → false ≡ all_true xs
-  all_stop e inv = sym (sym inv ∙ all_at ∙ and_left _ _ e)
-
-  pub all_more : get_or xs i false ≡ true → all_true (drop i xs) ≡ all_true xs → all_true (drop (i + 1) xs) ≡ all_true xs
-  all_more e inv = sym (all_at ∙ ap (λ b. b && all_true (drop (i + 1) xs)) e) ∙ inv
-
-  pub any_stop : get_or xs i false ≡ true → any_true (drop i xs) ≡ any_true xs → true ≡ any_true xs
-  any_stop e inv = sym (sym inv ∙ any_at ∙ or_left _ _ e)
-
-  pub any_more : get_or xs i false ≡ false → any_true (drop i xs) ≡ any_true xs → any_true (drop (i + 1) xs) ≡ any_true xs
-  any_more e inv = sym (any_at ∙ ap (λ b. b || any_true (drop (i + 1) xs)) e) ∙ inv
-
--- a packet that is not misplaced has room
-pub has_room : (d : ℕ) (there : List Bool) (last : Option ℕ) (p : Content) (r : Bool) → r ≡ misplaced d there last p → r ≡ false → (p.id < 1024) × (p.id * d + length p.bytes ≤ 16384)
-has_room d there last p r is e =
-    let a = or_parts _ _ (or_parts _ _ (sym is ∙ e)).1 in
-    let b = or_parts _ _ a.1 in
-    (leb-false 1024 p.id a.0, ltb-false 16384 (p.id * d + length p.bytes) b.0)
-
-pub zeroed : (n m : ℕ) (xs ys : List ℕ) → xs ≡ [] → m ≡ 0 → ys ≡ take n xs ++ replicate (n - m) 0 → ys ≡ replicate n 0
-zeroed n m xs ys e f g =
-    let none : take n xs ≡ [] = nil_from_length (take n xs) (let a = length-take n xs in let b = ap length e in omega arith) in
-    let all : n - m ≡ n = omega arith in
-    g ∙ ap (λ zs. zs ++ replicate (n - m) 0) none ∙ ap (λ k. replicate k 0) all
+none_from n xs h =
+    list_any_none (λ b. b) (drop n xs) (All-from_get_or (λ b. b ≡ false) (drop n xs) false (λ i _. get_or-drop n xs i false ∙ h (n + i) (omega arith)))
 
 module _ (xs : List ℕ) (a : ℕ) (ys : List ℕ) (fits : a + length ys ≤ length xs) where
   front : length (take a xs) ≡ a

@@ -1,6 +1,5 @@
 pub mod Cutting
 pub mod Flags
-pub mod Collectors
 pub mod Sends
 pub mod SenderRuns
 pub mod Places

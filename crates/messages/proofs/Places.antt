@@ -1,14 +1,14 @@
 -- What the collector holds of a message, and what a packet of an outstanding piece makes of it.
 use Rattle.std.proofs.Common.{◌≡◌, ℕ, ◌+◌, ◌-◌, ◌*◌, ◌<◌, ◌≤◌, min, Bool, true, false, cond, ◌&&◌, eqb, ◌≢◌, ◌⊎◌, List, length, get_or, drop, set, Some, None, Option, sym, refl, ap, ◌∙◌, subst, inl, inr, ⊎_elim, mul-le-mul_right, arith}
 use Rattle.std.proofs.lemmas.List.{get_or-take, get_or-drop, get_or-set_same, get_or-set_other, get_or-replicate, get_or_past, length-set, length-replicate}
-use Rattle.std.proofs.lemmas.Bool.{or_from, and_left, and_right, not_from_true, lt-leb, le-ltb, eq-eqb, ne_eqb, cases_eq, cases_lt, cases_order}
+use Rattle.std.proofs.lemmas.Bool.{false_from_ne_true, or_from, and_left, and_right, not_from_true, lt-leb, le-ltb, eq-eqb, ne_eqb, cases_eq, cases_lt, cases_order}
 use Rattle.messages.specs.declared.states.Phase.TheVariants.{Empty, Collecting, Complete as IsComplete}
 use Rattle.messages.specs.Pieces.{piece_count, piece}
 use Rattle.packets.specs.Packets.{Content}
 use Rattle.messages.specs.Packets.{packet_of}
 use Rattle.messages.specs.CollectorCalls.{CollectorState, any_true, none_there, begun, behind, completes, last_with, misplaced, none_missing, placed, wrong_length, written}
 use Rattle.messages.proofs.Cutting.{row, starts_within, within_starts, length-piece}
-use Rattle.messages.proofs.Flags.{false_since, all_true_lem, all_true_at, none_from, length-written, written_in, written_below, written-above}
+use Rattle.messages.proofs.Flags.{all_true_lem, all_true_at, none_from, length-written, written_in, written_below, written-above}
 use Rattle.messages.proofs.Sends.{Sendable}
 
 -- the last piece is known exactly if it was brought
@@ -53,13 +53,12 @@ none_at : (i : ℕ) → get_or none_there i false ≡ true → ⊥
 none_at i e =
     let z : false ≡ true =
     ⊎_elim (λ l. sym (get_or-replicate 1024 i false false l) ∙ e) (λ l. sym (get_or_past none_there i false (omega (arith, length-replicate 1024 false))) ∙ e) (cases_lt i 1024) in
-    let o : ◌≡◌ {A = ℕ} 0 1 = cc in
-    omega arith
+    cc
 
 -- nothing of a new message is there
 pub holds_begun : (d : ℕ) (c : CollectorState) (m : List ℕ) (toggle : Bool) (B : ℕ → Type 0) → length c.bytes ≡ 16384 → length m ≤ 16384 → ((i : ℕ) → B i → ⊥) → Holds d (begun c toggle) m toggle B
 holds_begun d c m toggle B space room none = record {
-  not_empty = λ e. let o : ◌≡◌ {A = ℕ} 0 1 = cc in omega arith;
+  not_empty = λ e. cc;
   toggle_is = refl;
   ids = length-replicate 1024 false;
   space = space;
@@ -69,16 +68,16 @@ holds_begun d c m toggle B space room none = record {
   few = λ i b. absurd (none i b);
   ended = λ i h b. none i b;
   bytes_are = λ i k b. absurd (none i b);
-  whole = λ e. let o : ◌≡◌ {A = ℕ} 0 1 = cc in absurd (omega arith);
+  whole = λ e. cc;
 }
 
 phase_complete : (b : Bool) → cond b IsComplete Collecting ≡ IsComplete → b ≡ true
 phase_complete true e = refl
-phase_complete false e = let o : ◌≡◌ {A = ℕ} 0 1 = cc in absurd (omega arith)
+phase_complete false e = cc
 
 phase_some : (b : Bool) → cond b IsComplete Collecting ≡ Empty → ⊥
-phase_some true e = let o : ◌≡◌ {A = ℕ} 0 1 = cc in omega arith
-phase_some false e = let o : ◌≡◌ {A = ℕ} 0 1 = cc in omega arith
+phase_some true e = cc
+phase_some false e = cc
 
 module _ (d : ℕ) (m : List ℕ) (j : ℕ) (some : 1 ≤ d) (can : Sendable d m) (is_piece : j < piece_count d (length m)) where
   starts : j * d < length m
@@ -124,7 +123,7 @@ module _ (o : CollectorState) (m : List ℕ) (toggle : Bool) (B B' : ℕ → Typ
   cuts_none : (eqb (j + 1) (piece_count o.piece_length (length m)) && any_true (drop (j + 1) o.there)) ≡ false
   cuts_none =
       ⊎_elim
-      (λ e. and_right _ _ (none_from (j + 1) o.there (λ i l. false_since _ (λ t. omega (arith, h.few i (h.was i t))))))
+      (λ e. and_right _ _ (none_from (j + 1) o.there (λ i l. false_from_ne_true _ (λ t. omega (arith, h.few i (h.was i t))))))
       (λ ne. and_left _ _ (ne_eqb (j + 1) (piece_count o.piece_length (length m)) ne))
       (cases_eq (j + 1) (piece_count o.piece_length (length m)))
 
@@ -169,7 +168,7 @@ module _ (o : CollectorState) (m : List ℕ) (toggle : Bool) (B B' : ℕ → Typ
       (cases_eq i j)
 
   complete_go : (last : Option ℕ) (total : ℕ) → Ended o.piece_length m B' last total → none_missing (set o.there j true) last ≡ true → (i : ℕ) → i < piece_count o.piece_length (length m) → B' i
-  complete_go None total e w i l = let z : ◌≡◌ {A = ℕ} 0 1 = cc in absurd (omega arith)
+  complete_go None total e w i l = cc
   complete_go (Some k) total e w i l =
       let long = length-set o.there j true in
       was_after i (all_true_at (k + 1) (set o.there j true) i w (omega (arith, h.ids, can.few, e.0)) (omega (arith, e.0)))

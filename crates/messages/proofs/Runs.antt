@@ -1,7 +1,7 @@
 -- The promise: what is known of the two states after every history.
 use Rattle.std.proofs.Common.{◌≡◌, ℕ, ◌≤◌, List, [], ◌∷◌, length, take, drop, sym, refl, ap, ◌∙◌, subst, inl, inr, ⊎_elim, arith}
 use Rattle.std.proofs.lemmas.List.{take_at, length-replicate}
-use Rattle.packets.specs.declared.parts.Header.{Header}
+use Rattle.messages.specs.declared.content.NextPacket.{NextPacket}
 use Rattle.messages.specs.declared.states.Phase.TheVariants.{Empty}
 use Rattle.messages.specs.declared.states.Progress.TheVariants.{Idle}
 use Rattle.packets.specs.Packets.{Content, content_of}
@@ -43,10 +43,10 @@ module _ (d : ℕ) (sent : List Sent) (f : Sent) (ch : Chain d sent) where
       ⊎_elim (λ l. omega (arith, ap (λ y. y.number) e)) (λ q. omega (arith, q.0, ap (λ y. y.number) e)) (due.later x i)
 
 -- what next answers is the packet that comes next
-packet_read : (p : Content) (xs ys : List ℕ) (header : Header) (n : ℕ) → Carries p xs ys header n → content_of header (take n ys) ≡ p
-packet_read p xs ys header n q =
-    let e : take n ys ≡ p.bytes = ap (take n) q.2 ∙ take_at p.bytes (drop n xs) n (sym q.1) in
-    ap (content_of header) e ∙ q.0
+packet_read : (p : Content) (xs ys : List ℕ) (r : NextPacket) → Carries p xs ys r → content_of r.header (take r.length ys) ≡ p
+packet_read p xs ys r q =
+    let e : take r.length ys ≡ p.bytes = ap (take r.length) q.2 ∙ take_at p.bytes (drop r.length xs) r.length (sym q.1) in
+    ap (content_of r.header) e ∙ q.0
 
 module _ (d : ℕ) (s₀ : SenderState) (c₀ : CollectorState) (some : 1 ≤ d) (begins : Good d s₀ c₀ (record { loads = 0; message = []; sends = 0; sent = []; taken = [] })) where
   pub good : {s : SenderState} {c : CollectorState} {h : History} → Run s₀ c₀ s c h → Good d s c h
@@ -67,12 +67,12 @@ module _ (d : ℕ) (s₀ : SenderState) (c₀ : CollectorState) (some : 1 ≤ d)
         latest = g.latest;
         collector = g.collector;
       }
-  good (next {s} {c} {h} run xs ys t header n step) =
+  good (next {s} {c} {h} run xs ys t r step) =
       let g = good run in
       record {
         sender =
-            next_ok d h.loads h.message h.sends h.sent s t (content_of header (take n ys)) g.sender step.0
-            (packet_read (next_packet s) xs ys header n step.1) step.2;
+            next_ok d h.loads h.message h.sends h.sent s t (content_of r.header (take r.length ys)) g.sender step.0
+            (packet_read (next_packet s) xs ys r step.1) step.2;
         of_sent = λ x i. inr (g.of_sent x i);
         latest = g.latest;
         collector = g.collector;

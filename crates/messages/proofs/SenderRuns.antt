@@ -43,14 +43,14 @@ start_ok d s e f = record {
 }
 
 passed : (a b c : Bool) (x y z : Refusal) → cond a (Some x) (cond b (Some y) (cond c (Some z) None)) ≡ None → (a ≡ false) × (b ≡ false) × (c ≡ false)
-passed true b c x y z e = let o : ◌≡◌ {A = ℕ} 0 1 = cc in absurd (omega arith)
-passed false true c x y z e = let o : ◌≡◌ {A = ℕ} 0 1 = cc in absurd (omega arith)
-passed false false true x y z e = let o : ◌≡◌ {A = ℕ} 0 1 = cc in absurd (omega arith)
+passed true b c x y z e = cc
+passed false true c x y z e = cc
+passed false false true x y z e = cc
 passed false false false x y z e = (refl, refl, refl)
 
 sendable_since : (p : Progress) (d : ℕ) (m : List ℕ) → load_refusal p d (length m) ≡ None → Sendable d m
-sendable_since Waiting d m e = let o : ◌≡◌ {A = ℕ} 0 1 = cc in absurd (omega arith)
-sendable_since (Sending i) d m e = let o : ◌≡◌ {A = ℕ} 0 1 = cc in absurd (omega arith)
+sendable_since Waiting d m e = cc
+sendable_since (Sending i) d m e = cc
 sendable_since Idle d m e =
     let t = passed (eqb (length m) 0) (ltb 16384 (length m)) (ltb 1024 (piece_count d (length m))) MessageLength MessageLength TooManyPieces e in
     let some : length m ≢ 0 = eqb-false (length m) 0 t.0 in
@@ -115,7 +115,7 @@ module _ (d loads : ℕ) (message : List ℕ) (sends l : ℕ) (toggle : Bool) (o
   numbered sent num x (inr i) = num x i
 
   go : (p : Progress) (sent : List Sent) → Chain d sent → Newest toggle sent → ((x : Sent) → In x sent → x.number ≤ loads) → At d p own loads message sends sent → is_loaded p ≡ true → packet ≡ next_packet (state p) → SenderOk d (advanced (state p)) loads message (sends + 1) (f ∷ sent)
-  go Idle sent ch new num at is e = let o : ◌≡◌ {A = ℕ} 0 1 = cc in absurd (omega arith)
+  go Idle sent ch new num at is e = cc
   go Waiting sent ch new num at is e =
       let c = piece_count d (length message) in
       let first : ◌≡◌ {A = ℕ} 0 (sends % c) = sym (ap (λ x. x % c) at.2 ∙ zero-mod c) in

@@ -5,7 +5,7 @@ use Rattle.std.proofs.lemmas.List.{length-replicate}
 use Rattle.std.proofs.lemmas.Bool.{le-ltb, ne_eqb, cases_eq}
 use Rattle.refusals.specs.declared.Refusal.{Refusal}
 use Rattle.refusals.specs.declared.Refusal.TheVariants.{MessageLength, TooManyPieces, Misplaced}
-use Rattle.packets.specs.declared.parts.Header.{Header}
+use Rattle.messages.specs.declared.content.NextPacket.{NextPacket}
 use Rattle.messages.specs.declared.content.Placing.{Placing}
 use Rattle.messages.specs.declared.content.Placing.TheVariants.{Placed, Complete, Had, Repeat}
 use Rattle.messages.specs.declared.states.Progress.TheVariants.{Idle}
@@ -37,8 +37,9 @@ passes a b c x y z e f g =
     ∙ ap (λ t. cond t (Some y) (cond c (Some z) None)) f
     ∙ ap (λ t. cond t (Some z) None) g
 
-abbrev header_of : Content → Header
-header_of p = record { toggle = p.toggle; last = p.last; id = p.id }
+-- what next answers where it carries p
+abbrev carrying : Content → NextPacket
+carrying p = record { header = record { toggle = p.toggle; last = p.last; id = p.id }; length = length p.bytes }
 
 module _ (n : ℕ) (c₀ : CollectorState) (promise : Promise (piece_length_of n) (new_sender n) c₀) where
   abbrev d : ℕ
@@ -69,14 +70,14 @@ module _ (n : ℕ) (c₀ : CollectorState) (promise : Promise (piece_length_of n
 
   -- the packet that next answers in the state s
   abbrev answered : SenderState → Content
-  answered s = content_of (header_of (next_packet s)) (take (length (next_packet s).bytes) ((next_packet s).bytes ++ drop (length (next_packet s).bytes) []))
+  answered s = content_of (carrying (next_packet s)).header (take (length (next_packet s).bytes) ((next_packet s).bytes ++ drop (length (next_packet s).bytes) []))
 
   abbrev f₀ : Sent
   f₀ = record { number = 1; place = 0; message = m; packet = answered s₁ }
 
   run₂ : Run (new_sender n) c₀ (advanced s₁) c₀ (after_next h₁ (answered s₁))
   run₂ =
-      next run₁ [] ((next_packet s₁).bytes ++ drop (length (next_packet s₁).bytes) []) (advanced s₁) (header_of (next_packet s₁)) (length (next_packet s₁).bytes)
+      next run₁ [] ((next_packet s₁).bytes ++ drop (length (next_packet s₁).bytes) []) (advanced s₁) (carrying (next_packet s₁))
       (refl, (refl, refl, refl), refl)
 
   due₀ : Due (f₀ ∷ []) [] f₀
@@ -102,7 +103,7 @@ module _ (n : ℕ) (c₀ : CollectorState) (promise : Promise (piece_length_of n
 
   run₄ : Run (new_sender n) c₀ (advanced s₂) c₁ h₄
   run₄ =
-      next run₃ [] ((next_packet s₂).bytes ++ drop (length (next_packet s₂).bytes) []) (advanced s₂) (header_of (next_packet s₂)) (length (next_packet s₂).bytes)
+      next run₃ [] ((next_packet s₂).bytes ++ drop (length (next_packet s₂).bytes) []) (advanced s₂) (carrying (next_packet s₂))
       (refl, (refl, refl, refl), refl)
 
   abbrev f₁ : Sent

@@ -32,7 +32,7 @@ took f r = record { what = f; answer = r }
 
 only_complete : (b : Bool) → ◌≡◌ {A = Result Placing Refusal} (Ok (cond b Complete Placed)) (Ok Complete) → b ≡ true
 only_complete true e = refl
-only_complete false e = let o : ◌≡◌ {A = ℕ} 0 1 = cc in absurd (omega arith)
+only_complete false e = cc
 
 pub brings-piece : (d : ℕ) (f : Sent) → 1 ≤ d → 0 < length f.message → brings d f < piece_count d (length f.message)
 brings-piece d f some has =
@@ -124,8 +124,8 @@ any_found P (x ∷ xs) (inr q) = let r = any_found P xs q in (r.0, inr r.1, r.2)
 same_self : (a b : Bool) → a ≡ b → same a b ≡ true
 same_self true true e = refl
 same_self false false e = refl
-same_self true false e = let o : ◌≡◌ {A = ℕ} 0 1 = cc in absurd (omega arith)
-same_self false true e = let o : ◌≡◌ {A = ℕ} 0 1 = cc in absurd (omega arith)
+same_self true false e = cc
+same_self false true e = cc
 
 same_not : (b : Bool) → same (not b) b ≡ false
 same_not true = refl
@@ -172,21 +172,21 @@ module _ (c u : CollectorState) (f : Sent) (r : Result Placing Refusal) (some : 
     more_step IsComplete flag e g =
         let k : (r ≡ Ok Repeat) × (u ≡ c) = key IsComplete flag e g in
         let brought = h.whole e (brings c.piece_length f) (brings-piece c.piece_length f some ok.sendable.some) in
-        let other : r ≡ Ok Complete → ⊥ = λ q. let z = k.0 in let o : ◌≡◌ {A = ℕ} 0 1 = cc in omega arith in
+        let other : r ≡ Ok Complete → ⊥ = λ q. let z = k.0 in cc in
         let fine : is_ok r ≡ true = ap is_ok k.0 in
         (kept_told c.piece_length c u taken f r h brought fine other, kept_ok c.piece_length c u taken f r h brought fine other refl stands k.1)
     more_step Collecting true e g =
         let k : (r ≡ Ok Had) × (u ≡ c) = key Collecting true e g in
         let brought = h.was (brings c.piece_length f) g in
-        let other : r ≡ Ok Complete → ⊥ = λ q. let z = k.0 in let o : ◌≡◌ {A = ℕ} 0 1 = cc in omega arith in
+        let other : r ≡ Ok Complete → ⊥ = λ q. let z = k.0 in cc in
         let fine : is_ok r ≡ true = ap is_ok k.0 in
         (kept_told c.piece_length c u taken f r h brought fine other, kept_ok c.piece_length c u taken f r h brought fine other refl stands k.1)
     more_step Collecting false e g =
         let k : Placing-in c c u f.packet r = key Collecting false e g in
         let out : Brought c.piece_length taken f.number (brings c.piece_length f) → ⊥ =
-        λ b. let z = h.is (brings c.piece_length f) b in let o : ◌≡◌ {A = ℕ} 0 1 = cc in omega arith in
+        λ b. let z = h.is (brings c.piece_length f) b in cc in
         let done : (n : ℕ) (m : List ℕ) → f.number ≡ n → StandsComplete n m taken → ⊥ =
-        λ n m q s. let z = stands n m s in let o : ◌≡◌ {A = ℕ} 0 1 = cc in omega arith in
+        λ n m q s. let z = stands n m s in cc in
         (placed_told c c u taken f r some ok h out done k, placed_ok c c u taken f r some ok h out done k)
 
   take_step : (taken : List Took) → CollectorOk c.piece_length c taken → Meets taken f → Stepped taken
@@ -215,13 +215,13 @@ taken_ok d c u taken f r some good ok meets taking =
 
 refused_in : (c u o : CollectorState) (p : Content) (e : Refusal) (b : Bool) → Placed-in b o c u p (Err e) → u ≡ c
 refused_in c u o p e true h = h.1
-refused_in c u o p e false h = let z = h.0 in let x : ◌≡◌ {A = ℕ} 0 1 = cc in absurd (omega arith)
+refused_in c u o p e false h = let z = h.0 in cc
 
 refused_as : (c u : CollectorState) (p : Content) (e : Refusal) (st : Standing) → Taken-as st c u p (Err e) → u ≡ c
 refused_as c u p e new h = refused_in c u (begun c p.toggle) p e _ h
 refused_as c u p e more h = refused_in c u c p e _ h
-refused_as c u p e had h = let z = h.0 in let o : ◌≡◌ {A = ℕ} 0 1 = cc in absurd (omega arith)
-refused_as c u p e again h = let z = h.0 in let o : ◌≡◌ {A = ℕ} 0 1 = cc in absurd (omega arith)
+refused_as c u p e had h = let z = h.0 in cc
+refused_as c u p e again h = let z = h.0 in cc
 
 -- what is refused takes none
 pub refused_same : (c u : CollectorState) (p : Content) (e : Refusal) → Taking c u p (Err e) → u ≡ c
@@ -253,8 +253,7 @@ module _ (d : ℕ) (c : CollectorState) (some : 1 ≤ d) where
       let t : ltb (length xs) c.total ≡ false = le-ltb (length xs) c.total (omega arith) in
       let z : None ≡ Some e =
       sym (ap (λ x. fetch_refusal x c.total (length xs)) whole ∙ ap (λ b. cond b (Some FewBytes) None) t) ∙ f.0 in
-      let o : ◌≡◌ {A = ℕ} 0 1 = cc in
-      absurd (omega arith)
+      cc
 
   pub gives_back : (taken : List Took) → CollectorOk d c taken → (n : ℕ) (m : List ℕ) → StandsComplete n m taken → (xs ys : List ℕ) (r : Result ℕ Refusal) → Fetching c xs ys r → length m ≤ length xs → (r ≡ Ok (length m)) × (ys ≡ m ++ drop (length m) xs)
   gives_back [] good n m s xs ys r f l = absurd s

@@ -1,7 +1,7 @@
 -- Histories of one sender and one collector: what was loaded, sent and taken, whatever calls were made in whatever order.
 use Rattle.std.specs.Prelude.{◌≡◌, ℕ, ◌+◌, ◌<◌, ◌⊎◌, List, [], ◌∷◌, take, Ok, Err, Result}
 use Rattle.refusals.specs.declared.Refusal.{Refusal}
-use Rattle.packets.specs.declared.parts.Header.{Header}
+use Rattle.messages.specs.declared.content.NextPacket.{NextPacket}
 use Rattle.messages.specs.declared.content.Placing.{Placing}
 use Rattle.packets.specs.Packets.{Content, content_of}
 use Rattle.messages.specs.SenderCalls.{SenderState, Loading, Nexting, Clearing}
@@ -80,7 +80,7 @@ pub data Run (s₀ : SenderState) (c₀ : CollectorState) : SenderState → Coll
   start : Run s₀ c₀ s₀ c₀ nothing
   load : {s : SenderState} {c : CollectorState} {h : History} → Run s₀ c₀ s c h → (message : List ℕ) (t : SenderState) → Loading s t message (Ok tt) → Run s₀ c₀ t c (after_load h message)
   load_refused : {s : SenderState} {c : CollectorState} {h : History} → Run s₀ c₀ s c h → (message : List ℕ) (t : SenderState) (e : Refusal) → Loading s t message (Err e) → Run s₀ c₀ t c h
-  next : {s : SenderState} {c : CollectorState} {h : History} → Run s₀ c₀ s c h → (bytes bytes_after : List ℕ) (t : SenderState) (header : Header) (n : ℕ) → Nexting s t bytes bytes_after (Ok (header, n)) → Run s₀ c₀ t c (after_next h (content_of header (take n bytes_after)))
+  next : {s : SenderState} {c : CollectorState} {h : History} → Run s₀ c₀ s c h → (bytes bytes_after : List ℕ) (t : SenderState) (answer : NextPacket) → Nexting s t bytes bytes_after (Ok answer) → Run s₀ c₀ t c (after_next h (content_of answer.header (take answer.length bytes_after)))
   next_refused : {s : SenderState} {c : CollectorState} {h : History} → Run s₀ c₀ s c h → (bytes bytes_after : List ℕ) (t : SenderState) (e : Refusal) → Nexting s t bytes bytes_after (Err e) → Run s₀ c₀ t c h
   clear : {s : SenderState} {c : CollectorState} {h : History} → Run s₀ c₀ s c h → (t : SenderState) → Clearing s t (Ok tt) → Run s₀ c₀ t c h
   clear_refused : {s : SenderState} {c : CollectorState} {h : History} → Run s₀ c₀ s c h → (t : SenderState) (e : Refusal) → Clearing s t (Err e) → Run s₀ c₀ t c h

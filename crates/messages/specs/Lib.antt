@@ -3,6 +3,7 @@ pub mod Pieces
 pub mod Packets
 pub mod SenderCalls
 pub mod CollectorCalls
+pub mod Endings
 pub mod Histories
 pub mod Promise
 pub mod Views

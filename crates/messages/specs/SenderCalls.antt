@@ -2,7 +2,7 @@
 use Rattle.std.specs.Prelude.{◌≡◌, ℕ, ◌+◌, ◌%◌, Bool, true, false, cond, not, List, [], ◌++◌, length, drop, Some, None, Ok, Err, Option, Result, ◌==◌, nat_lt}
 use Rattle.refusals.specs.declared.Refusal.{Refusal}
 use Rattle.refusals.specs.declared.Refusal.TheVariants.{MessageLoaded, MessageLength, TooManyPieces, NothingLoaded}
-use Rattle.packets.specs.declared.parts.Header.{Header}
+use Rattle.messages.specs.declared.content.NextPacket.{NextPacket}
 use Rattle.messages.specs.declared.states.Progress.{Progress}
 use Rattle.messages.specs.declared.states.Progress.TheVariants.{Idle, Waiting, Sending}
 use Rattle.messages.specs.Pieces.{piece_length_of, piece_count}
@@ -76,12 +76,12 @@ advanced s = record {
 }
 
 -- the answer and the front of the caller's bytes are the packet; the bytes behind it stay
-abbrev pub Carries : Content → (before after : List ℕ) → Header → ℕ → Type 0
-Carries p xs ys h n = (content_of h p.bytes ≡ p) × (n ≡ length p.bytes) × (ys ≡ p.bytes ++ drop n xs)
+abbrev pub Carries : Content → (before after : List ℕ) → NextPacket → Type 0
+Carries p xs ys r = (content_of r.header p.bytes ≡ p) × (r.length ≡ length p.bytes) × (ys ≡ p.bytes ++ drop r.length xs)
 
 -- next: the packet that comes next; refused where nothing is loaded, and everything is as it was
-abbrev pub Nexting : (before after : SenderState) (bytes bytes_after : List ℕ) → Result (Header × ℕ) Refusal → Type 0
-Nexting s t xs ys (Ok r) = (is_loaded s.progress ≡ true) × Carries (next_packet s) xs ys r.0 r.1 × (t ≡ advanced s)
+abbrev pub Nexting : (before after : SenderState) (bytes bytes_after : List ℕ) → Result NextPacket Refusal → Type 0
+Nexting s t xs ys (Ok r) = (is_loaded s.progress ≡ true) × Carries (next_packet s) xs ys r × (t ≡ advanced s)
 Nexting s t xs ys (Err e) = (is_loaded s.progress ≡ false) × (e ≡ NothingLoaded) × (t ≡ s) × (ys ≡ xs)
 
 -- clear drops the message; the toggle stays

@@ -1,6 +1,15 @@
-// What the collector answers.
+// What the sender and the collector answer.
 ghost use Rattle.std.specs.Prelude.{◌≡◌};
 ghost use Rattle.messages.specs.Answers.{placing_name};
+
+use packets::Header;
+
+// What next answers: a packet's header, and how many bytes of data it wrote.
+#[derive(Clone, Copy)]
+pub struct NextPacket {
+    pub header: Header,
+    pub length: usize,
+}
 
 // What take answers of a packet.
 #[derive(Clone, Copy)]

@@ -3,11 +3,13 @@
 
 mod collecting;
 mod content;
+mod piece_length;
+mod pieces;
 mod sending;
 mod states;
 mod together;
 
 pub use collecting::Collector;
-pub use content::Placing;
+pub use content::{NextPacket, Placing};
 pub use sending::Sender;
 pub use together::pair;

@@ -1,5 +1,5 @@
 // How far the sender and the collector are.
-ghost use Rattle.std.specs.Prelude.{◌≡◌};
+ghost use Rattle.std.specs.Prelude.{◌≡◌, Some, None, if◌then◌else◌};
 ghost use Rattle.messages.specs.SenderCalls.{is_loaded, next_piece, next_toggle};
 
 #[derive(Clone, Copy)]
@@ -8,7 +8,7 @@ pub(crate) enum Progress {
     // loaded, and no packet of it was sent
     Waiting,
     // the piece that comes next
-    Sending(usize),
+    Sending(u16),
 }
 
 #[derive(Clone, Copy)]
@@ -19,22 +19,14 @@ pub(crate) enum Phase {
 }
 
 impl Progress {
-    pub(crate) fn is_loaded(self) -> bool
-        ensures { result ≡ is_loaded self }
+    // The piece that comes next, if a message is loaded.
+    pub(crate) fn piece(self) -> Option<u16>
+        ensures { result ≡ (if is_loaded self then Some (next_piece self) else None) }
     {
         match self {
-            Progress::Idle => false,
-            Progress::Waiting | Progress::Sending(_) => true,
-        }
-    }
-
-    // The piece that comes next.
-    pub(crate) fn piece(self) -> usize
-        ensures { result ≡ next_piece self }
-    {
-        match self {
-            Progress::Idle | Progress::Waiting => 0,
-            Progress::Sending(id) => id,
+            Progress::Idle => None,
+            Progress::Waiting => Some(0),
+            Progress::Sending(id) => Some(id),
         }
     }
 

@@ -1,4 +1,2 @@
 pub mod Carries
-pub mod MisRecords
 pub mod ReadBack
-pub mod TisRecords

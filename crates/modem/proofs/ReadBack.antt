@@ -1,5 +1,5 @@
 -- What reading a stream answers is what was sent. Assumes nothing.
-use Rattle.std.proofs.Common.{◌≡◌, ℕ, ◌*◌, ◌<◌, ◌≤◌, Bool, List, length, Ok, Err, Result, sym, ap, ◌∙◌, subst, arith}
+use Rattle.std.proofs.Common.{◌≡◌, ℕ, ◌*◌, ◌<◌, ◌≤◌, Bool, List, length, Ok, Err, Result, sym, refl, ap, ◌∙◌, subst, arith}
 use Rattle.codes.specs.Symbols.{differing, Below128}
 use Rattle.codes.specs.Mending.{Within}
 use Rattle.codes.specs.declared.words.BeyondReach.{BeyondReach}
@@ -15,6 +15,7 @@ use Rattle.modem.specs.Reading.{RecordMended, StreamWithin, StreamAnswer, ReadsB
 use Rattle.modem.specs.declared.carrying.Reading.{Reading}
 use Rattle.modem.specs.declared.fault.StreamFault.{StreamFault}
 use Rattle.modem.specs.declared.fault.StreamFault.TheVariants.{Reach, Record}
+use Rattle.streams.specs.Records.{ReadsBits}
 use Rattle.modem.proofs.Carries.{record_back, message_back, symbols_near}
 
 -- the symbols given, by the code's own length
@@ -42,56 +43,56 @@ stated_within k n word reach decided record_bits cells m bits e r is of w =
     let same : message_of k (record_bits r) ≡ m = ap (message_of k) (sym is ∙ of) ∙ message_back k m w.size w.below in
     rw same w
 
--- a stream's records: as long as the message's symbols, and read as they were written
-module _ (k : ℕ) {R : Type 0} (record_bits : R → List Bool) (read_bits : List Bool → Result R BadRecord)
-    (record-size : (r : R) → length (record_bits r) ≡ k * 7)
-    (back : (r : R) → read_bits (record_bits r) ≡ Ok r) where
+Ok-one : {R : Type 0} (x y : R) → ◌≡◌ {A = Result R BadRecord} (Ok x) (Ok y) → x ≡ y
+Ok-one x y e = cc
+
+-- a stream's records: as long as the message's symbols
+module _ (k : ℕ) {R : Type 0} (record_bits : R → List Bool) (record-size : (r : R) → length (record_bits r) ≡ k * 7) where
   message_size_lem : (r : R) → length (message_of k (record_bits r)) ≡ k
   message_size_lem r = length_cut 7 k (scrambled 0 (record_bits r))
 
   message-below : (r : R) → Below128 (λ (x : ℕ). x) (message_of k (record_bits r))
   message-below r = cut-below_128 k (scrambled 0 (record_bits r))
 
-  message_read : (r : R) → read_bits (record_of (message_of k (record_bits r))) ≡ Ok r
-  message_read r = ap read_bits (record_back k (record_bits r) (record-size r)) ∙ back r
+  -- the record of a message that is also another record's is that record
+  one_record : (m : List ℕ) (r : R) → m ≡ message_of k (record_bits r) → record_of m ≡ record_bits r
+  one_record m r e = ap record_of e ∙ record_back k (record_bits r) (record-size r)
 
-  -- messages tell apart what is stated
-  one_stated : (a b : R) → message_of k (record_bits a) ≡ message_of k (record_bits b) → a ≡ b
-  one_stated a b e =
-      let p = message_read a in
-      let q = message_read b in
-      let f : read_bits (record_of (message_of k (record_bits a))) ≡ read_bits (record_of (message_of k (record_bits b))) = ap (λ l. read_bits (record_of l)) e in
-      cc
-
-  -- and so do words
+  -- records that tell apart what is stated are told apart by words
   pub told_apart : (word : List ℕ → List ℕ) (distance : ℕ)
       → ((m o : List ℕ) → length m ≡ k → length o ≡ k → Below128 (λ (x : ℕ). x) m → Below128 (λ (x : ℕ). x) o → differing (λ (x : ℕ). x) (word m) (word o) < distance → m ≡ o)
-      → (sent : R) → ToldApart record_bits k word distance sent
-  told_apart word distance distant sent other few =
-      one_stated other sent
-      (sym (distant (message_of k (record_bits sent)) (message_of k (record_bits other)) (message_size_lem sent) (message_size_lem other) (message-below sent) (message-below other) few))
+      → (sent : R) → ((other : R) → record_bits other ≡ record_bits sent → other ≡ sent) → ToldApart record_bits k word distance sent
+  told_apart word distance distant sent only other few =
+      let same = distant (message_of k (record_bits sent)) (message_of k (record_bits other)) (message_size_lem sent) (message_size_lem other) (message-below sent) (message-below other) few in
+      only other (sym (one_record (message_of k (record_bits other)) other refl) ∙ one_record (message_of k (record_bits other)) sent (sym same))
 
-module _ (k n : ℕ) (word : List ℕ → List ℕ) (distance reach : ℕ) (point : List Bool → Cell) (decided : Cell → List Bool) (width count : ℕ)
+-- what is found on the way to an answer
+module _ (k n : ℕ) (word : List ℕ → List ℕ) (reach : ℕ) (decided : Cell → List Bool) {R : Type 0} (record_bits : R → List Bool) (read_bits : List Bool → Result R BadRecord) where
+  abbrev pub Found : List Cell → Result (Reading R) StreamFault → Type 0
+  Found cells (Ok got) = (m : List ℕ) × StreamWithin k n word reach decided cells m got.mended × ReadsBits record_bits (record_of m) (Ok got.stated)
+  Found cells (Err (Reach f)) = (m : List ℕ) (e : ℕ) → StreamWithin k n word reach decided cells m e → ⊥
+  Found cells (Err (Record f)) =
+      (m : List ℕ) × (e : ℕ) × StreamWithin k n word reach decided cells m e × (read_bits (record_of m) ≡ Err f) × ReadsBits record_bits (record_of m) (Err f)
+
+module _ (k n : ℕ) (word : List ℕ → List ℕ) (distance reach : ℕ) (point : List Bool → Cell) (decided : Cell → List Bool) (width : ℕ)
     {R : Type 0} (record_bits : R → List Bool) (read_bits : List Bool → Result R BadRecord)
     (record-size : (r : R) → length (record_bits r) ≡ k * 7)
-    (back : (r : R) → read_bits (record_bits r) ≡ Ok r)
     (sized : (m : List ℕ) → length m ≡ k → length (word m) ≡ n)
     (below : (m : List ℕ) → length m ≡ k → Below128 (λ (x : ℕ). x) m → Below128 (λ (x : ℕ). x) (word m))
     (distant : (m o : List ℕ) → length m ≡ k → length o ≡ k → Below128 (λ (x : ℕ). x) m → Below128 (λ (x : ℕ). x) o → differing (λ (x : ℕ). x) (word m) (word o) < distance → m ≡ o)
     (unique : 2 * reach < distance)
-    (steady : Steady point width decided)
-    (room : n * 7 ≤ width * count) where
+    (steady : Steady point width decided) where
   -- what was sent is within reach
-  sent_within : (sent : R) (near cells : List Cell) → Moved (cells_of point width count (word (message_of k (record_bits sent)))) near
+  sent_within : (count : ℕ) → n * 7 ≤ width * count → (sent : R) (near cells : List Cell) → Moved (cells_of point width count (word (message_of k (record_bits sent)))) near
       → wrong_symbols decided n near cells ≤ reach
       → StreamWithin k n word reach decided cells (message_of k (record_bits sent)) (wrong_symbols decided n near cells)
-  sent_within sent near cells moved close =
+  sent_within count room sent near cells moved close =
       let m = message_of k (record_bits sent) in
       let same : symbols_of decided n near ≡ word m =
-      symbols_near point decided width count n (word m) near steady (sized m (message_size_lem k record_bits read_bits record-size back sent)) (below m (message_size_lem k record_bits read_bits record-size back sent) (message-below k record_bits read_bits record-size back sent)) room moved in
+      symbols_near point decided width count n (word m) near steady (sized m (message_size_lem k record_bits record-size sent)) (below m (message_size_lem k record_bits record-size sent) (message-below k record_bits record-size sent)) room moved in
       record {
-        size = message_size_lem k record_bits read_bits record-size back sent;
-        below = message-below k record_bits read_bits record-size back sent;
+        size = message_size_lem k record_bits record-size sent;
+        below = message-below k record_bits record-size sent;
         places = ap (λ l. differing (λ (x : ℕ). x) l (symbols_of decided n cells)) (sym same);
         near = close;
       }
@@ -100,21 +101,45 @@ module _ (k n : ℕ) (word : List ℕ → List ℕ) (distance reach : ℕ) (poin
   only cells m o e f =
       one_within (λ (x : ℕ). x) k n distance reach word sized distant unique (symbols_of decided n cells) m o e f (length_cut 7 n (decided_bits decided cells))
 
-  pub reads_back : (cells : List Cell) (answer : Result (Reading R) StreamFault) → StreamAnswer k n word reach decided record_bits read_bits cells answer
-      → ReadsBack k n word reach decided record_bits read_bits point width count cells answer
-  reads_back cells (Ok got) a sent near moved close =
-      let w = sent_within sent near cells moved close in
-      let e = only cells (message_of k (record_bits got.stated)) (message_of k (record_bits sent)) got.mended _ a w in
-      let p : got.stated ≡ sent = one_stated k record_bits read_bits record-size back got.stated sent e in
-      let q : got.mended ≡ wrong_symbols decided n near cells =
-      sym a.places ∙ ap (λ l. differing (λ (x : ℕ). x) (word l) (symbols_of decided n cells)) e ∙ w.places in
-      ap (λ x. Ok (record { stated = x; mended = got.mended })) p ∙ ap (λ i. Ok (record { stated = sent; mended = i })) q
-  reads_back cells (Err (Reach f)) a sent near moved close = absurd (a (message_of k (record_bits sent)) _ (sent_within sent near cells moved close))
-  reads_back cells (Err (Record f)) a sent near moved close =
-      let w = sent_within sent near cells moved close in
-      let e = only cells a.0 (message_of k (record_bits sent)) a.1 _ a.2 w in
-      let bad = a.3 in
-      let good = message_read k record_bits read_bits record-size back sent in
-      let same : read_bits (record_of a.0) ≡ read_bits (record_of (message_of k (record_bits sent))) = ap (λ l. read_bits (record_of l)) e in
-      let z : ◌≡◌ {A = ℕ} 0 1 = cc in
-      absurd (omega arith)
+  module _ (cells : List Cell) (count : ℕ) (room : n * 7 ≤ width * count) where
+    -- where no word is within reach nothing was sent
+    none_sent : (f : BeyondReach) → ((m : List ℕ) (e : ℕ) → StreamWithin k n word reach decided cells m e → ⊥)
+        → ReadsBack k n word reach decided record_bits read_bits point width count cells (Err (Reach f))
+    none_sent f none sent near moved close = absurd (none (message_of k (record_bits sent)) _ (sent_within count room sent near cells moved close))
+
+    -- the message within reach is the one that was sent, and its record is read as what was sent
+    module _ (m : List ℕ) (e : ℕ) (got : StreamWithin k n word reach decided cells m e) (r : Result R BadRecord) (exactly : ReadsBits record_bits (record_of m) r) where
+      read_as_sent : (sent : R) (near : List Cell) → Moved (cells_of point width count (word (message_of k (record_bits sent)))) near
+          → wrong_symbols decided n near cells ≤ reach → (r ≡ Ok sent) × (e ≡ wrong_symbols decided n near cells)
+      read_as_sent sent near moved close =
+          let w = sent_within count room sent near cells moved close in
+          let same = only cells m (message_of k (record_bits sent)) e _ got w in (
+            (exactly sent).1 (one_record k record_bits record-size m sent same),
+            sym got.places ∙ ap (λ l. differing (λ (x : ℕ). x) (word l) (symbols_of decided n cells)) same ∙ w.places,
+          )
+
+    good_sent : (m : List ℕ) (e : ℕ) → StreamWithin k n word reach decided cells m e → (x : R) → ReadsBits record_bits (record_of m) (Ok x)
+        → ReadsBack k n word reach decided record_bits read_bits point width count cells (Ok (record { stated = x; mended = e }))
+    good_sent m e got x exactly sent near moved close =
+        let both = read_as_sent m e got (Ok x) exactly sent near moved close in
+        let same : x ≡ sent = Ok-one x sent both.0 in
+        ap (λ y. Ok (record { stated = y; mended = e })) same ∙ ap (λ i. Ok (record { stated = sent; mended = i })) both.1
+
+    bad_sent : (m : List ℕ) (e : ℕ) → StreamWithin k n word reach decided cells m e → (f : BadRecord) → ReadsBits record_bits (record_of m) (Err f)
+        → ReadsBack k n word reach decided record_bits read_bits point width count cells (Err (Record f))
+    bad_sent m e got f exactly sent near moved close =
+        let both = read_as_sent m e got (Err f) exactly sent near moved close in
+        let bad = both.0 in
+        let z : ◌≡◌ {A = ℕ} 0 1 = cc in
+        absurd (omega arith)
+
+  -- an answer by what was found is right, and answers what was sent
+  pub right : (cells : List Cell) (answer : Result (Reading R) StreamFault) → Found k n word reach decided record_bits read_bits cells answer
+      → StreamAnswer k n word reach decided record_bits read_bits cells answer
+      × ((count : ℕ) → n * 7 ≤ width * count → ReadsBack k n word reach decided record_bits read_bits point width count cells answer)
+  right cells (Ok got) f = (
+    stated_within k n word reach decided record_bits cells f.0 (record_of f.0) got.mended got.stated ((f.2 got.stated).0 refl) refl f.1,
+    λ count room. good_sent cells count room f.0 got.mended f.1 got.stated f.2,
+  )
+  right cells (Err (Reach b)) f = (f, λ count room. none_sent cells count room b f)
+  right cells (Err (Record b)) f = ((f.0, f.1, f.2, f.3), λ count room. bad_sent cells count room f.0 f.1 f.2 b f.4)

@@ -2,6 +2,8 @@
 use Rattle.refusals.specs.declared.Refusal.{Refusal}
 use Rattle.refusals.specs.declared.Refusal.TheVariants.{MisBeyondReach, BadMis, TisBeyondReach, BadTis}
 use Rattle.modem.specs.declared.fault.StreamFault.{StreamFault}
+use Rattle.modem.specs.declared.fault.FrameFault.{FrameFault}
+use Rattle.modem.specs.declared.fault.FrameFault.TheVariants.{Mis, Tis}
 use Rattle.modem.specs.declared.fault.StreamFault.TheVariants.{Reach, Record}
 
 abbrev pub mis_refusal : StreamFault → Refusal
@@ -11,3 +13,8 @@ mis_refusal (Record f) = BadMis
 abbrev pub tis_refusal : StreamFault → Refusal
 tis_refusal (Reach f) = TisBeyondReach
 tis_refusal (Record f) = BadTis
+
+-- the refusal that a fault of the frame is, by the stream that it names
+abbrev pub refusal_of : FrameFault → Refusal
+refusal_of (Mis f) = mis_refusal f
+refusal_of (Tis f) = tis_refusal f

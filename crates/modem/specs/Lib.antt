@@ -2,4 +2,5 @@ pub mod Carrying
 pub mod Faults
 pub mod MisStream
 pub mod Reading
+pub mod Stream
 pub mod TisStream

@@ -2,13 +2,13 @@
 use Rattle.std.specs.Prelude.{ℕ, Bool, List, Result}
 use Rattle.cells.specs.declared.cell.Cell.{Cell}
 use Rattle.streams.specs.Mis.{mis_record, mis_read}
-use Rattle.bits.specs.Scrambling.{scrambled}
 use Rattle.modes.specs.declared.mode.Mis.{Mis}
 use Rattle.modem.specs.Carrying.{message_of, cells_of}
 use Rattle.modem.specs.Reading.{StreamAnswer, ReadsBack}
 use Rattle.modem.specs.declared.carrying.Reading.{Reading}
 use Rattle.modem.specs.declared.fault.StreamFault.{StreamFault}
-use Rattle.modem.specs.declared.mis.MisTrace.{MisTrace}
+use Rattle.modem.specs.Stream.{stream_trace}
+use Rattle.modem.specs.declared.stream.Trace.{Trace}
 
 -- the message of the MIS: two symbols
 abbrev pub mis_message : Mis → List ℕ
@@ -19,15 +19,8 @@ abbrev pub mis_cells : (List ℕ → List ℕ) → (List Bool → Cell) → Mis 
 mis_cells word point mis = cells_of point 2 14 (word (mis_message mis))
 
 -- every step of sending
-abbrev pub mis_trace : (List ℕ → List ℕ) → (List Bool → Cell) → Mis → MisTrace
-mis_trace word point mis =
-    record {
-      «record» = mis_record mis;
-      scrambled = scrambled 0 (mis_record mis);
-      message = mis_message mis;
-      word = word (mis_message mis);
-      cells = mis_cells word point mis;
-    }
+abbrev pub mis_trace : (List ℕ → List ℕ) → (List Bool → Cell) → Mis → Trace 14 2 4 14
+mis_trace word point = stream_trace 14 2 4 14 mis_record word point 2
 
 -- what reading the MIS answers, and that it answers what was sent
 abbrev pub MisAnswer : (List ℕ → List ℕ) → ℕ → (Cell → List Bool) → List Cell → Result (Reading Mis) StreamFault → Type 0

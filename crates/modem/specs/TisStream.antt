@@ -5,7 +5,6 @@ use Rattle.cells.specs.declared.cell.Cell.{Cell}
 use Rattle.cells.specs.declared.cell.Order.{Order}
 use Rattle.cells.specs.declared.cell.Order.TheVariants.{Four, Sixteen}
 use Rattle.streams.specs.Tis.{tis_record, tis_read}
-use Rattle.bits.specs.Scrambling.{scrambled}
 use Rattle.modes.specs.declared.mode.TisConstellation.{TisConstellation}
 use Rattle.modes.specs.declared.mode.TisConstellation.TheVariants.{Qam4, Qam16}
 use Rattle.modes.specs.declared.station.Tis.{Tis}
@@ -13,7 +12,8 @@ use Rattle.modem.specs.Carrying.{message_of, cells_of}
 use Rattle.modem.specs.Reading.{StreamAnswer, ReadsBack}
 use Rattle.modem.specs.declared.carrying.Reading.{Reading}
 use Rattle.modem.specs.declared.fault.StreamFault.{StreamFault}
-use Rattle.modem.specs.declared.tis.TisTrace.{TisTrace}
+use Rattle.modem.specs.Stream.{stream_trace}
+use Rattle.modem.specs.declared.stream.Trace.{Trace}
 
 -- the order of each constellation of the TIS
 abbrev pub tis_order : TisConstellation → Order
@@ -34,15 +34,8 @@ abbrev pub tis_cells : (List ℕ → List ℕ) → (Order → List Bool → Cell
 tis_cells word point c tis = cells_of (point (tis_order c)) (cell_bits (tis_order c)) 102 (word (tis_message tis))
 
 -- every step of sending
-abbrev pub tis_trace : (List ℕ → List ℕ) → (Order → List Bool → Cell) → TisConstellation → Tis → TisTrace
-tis_trace word point c tis =
-    record {
-      «record» = tis_record tis;
-      scrambled = scrambled 0 (tis_record tis);
-      message = tis_message tis;
-      word = word (tis_message tis);
-      cells = tis_cells word point c tis;
-    }
+abbrev pub tis_trace : (List ℕ → List ℕ) → (Order → List Bool → Cell) → TisConstellation → Tis → Trace 63 9 29 102
+tis_trace word point c = stream_trace 63 9 29 102 tis_record word (point (tis_order c)) (cell_bits (tis_order c))
 
 -- what reading the TIS answers, and that it answers what was sent
 abbrev pub TisAnswer : (List ℕ → List ℕ) → ℕ → (Order → Cell → List Bool) → TisConstellation → List Cell → Result (Reading Tis) StreamFault → Type 0

@@ -1,12 +1,13 @@
-// Why a stream of the frame cannot be read.
+// Why a frame cannot be read, by its streams.
 ghost use Rattle.std.specs.Prelude.{◌≡◌};
-ghost use Rattle.modem.specs.Faults.{mis_refusal, tis_refusal};
+ghost use Rattle.modem.specs.Faults.{refusal_of};
 ghost use Rattle.modem.specs.declared.fault.StreamFault.TheVariants.{Reach, Record};
 
 use codes::words::BeyondReach;
 use refusals::Refusal;
 use streams::BadRecord;
 
+// Why a stream cannot be read.
 #[derive(Clone, Copy)]
 pub enum StreamFault {
     Reach(BeyondReach),
@@ -29,24 +30,23 @@ impl From<BadRecord> for StreamFault {
     }
 }
 
-impl StreamFault {
-    // The refusal that a fault of the MIS is.
-    pub fn of_mis(self) -> Refusal
-        ensures { result ≡ mis_refusal self }
-    {
-        match self {
-            StreamFault::Reach(_) => Refusal::MisBeyondReach,
-            StreamFault::Record(_) => Refusal::BadMis,
-        }
-    }
+// Why a frame cannot be read: the stream, and its fault.
+#[derive(Clone, Copy)]
+pub enum FrameFault {
+    Mis(StreamFault),
+    Tis(StreamFault),
+}
 
-    // The refusal that a fault of the TIS is.
-    pub fn of_tis(self) -> Refusal
-        ensures { result ≡ tis_refusal self }
-    {
-        match self {
-            StreamFault::Reach(_) => Refusal::TisBeyondReach,
-            StreamFault::Record(_) => Refusal::BadTis,
+// The refusal that a fault is.
+impl From<FrameFault> for Refusal {
+    ghost from_gives = { λ fault refusal. refusal ≡ refusal_of fault };
+
+    fn from(fault: FrameFault) -> Refusal {
+        match fault {
+            FrameFault::Mis(StreamFault::Reach(_)) => Refusal::MisBeyondReach,
+            FrameFault::Mis(StreamFault::Record(_)) => Refusal::BadMis,
+            FrameFault::Tis(StreamFault::Reach(_)) => Refusal::TisBeyondReach,
+            FrameFault::Tis(StreamFault::Record(_)) => Refusal::BadTis,
         }
     }
 }

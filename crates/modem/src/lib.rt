@@ -4,9 +4,11 @@
 mod carrying;
 mod fault;
 mod mis;
+mod stream;
 mod tis;
 
 pub use carrying::{Reading, carry, decide_word};
-pub use fault::StreamFault;
+pub use fault::{FrameFault, StreamFault};
 pub use mis::{MisTrace, read_mis, write_mis};
+pub use stream::Trace;
 pub use tis::{TisTrace, read_tis, write_tis};

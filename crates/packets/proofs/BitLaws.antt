@@ -2,7 +2,7 @@
 use Rattle.std.proofs.Common.{◌≡◌, ℕ, zero, suc, ◌+◌, ◌*◌, ◌^◌, ◌<◌, ◌≤◌, Bool, true, false, eqb, List, [], ◌∷◌, ◌++◌, length, get_or, take, drop, replicate, sym, refl, ap, ◌∙◌, arith, take-add, pow_mono}
 use borrow.Rule.Slice.PartMut.{put_mid}
 use Rattle.std.proofs.lemmas.List.{append_assoc, drop_at, drop-drop, drop_more, length-append, length-drop, length-take, take_at}
-use Rattle.std.proofs.lemmas.Bool.{and_parts, eqb-true, leb-true, ltb-true, ne_eqb}
+use Rattle.std.proofs.lemmas.Bool.{and_parts, eqb-true, leb-true, ltb-true}
 use Rattle.bits.specs.Bits.{◌⊕◌, AllBelow, bits_of, number_of}
 use Rattle.bits.proofs.Bits.{bits_of-number_of, length-bits_of, length-spread, number_of-below, number_of-bits_of}
 use Rattle.packets.specs.declared.reading.Fields.{Fields}
@@ -89,16 +89,7 @@ pub sum_self : (a : Bool) → a ⊕ a ≡ false
 sum_self true = refl
 sum_self false = refl
 
-pub zero_more : (xs : List ℕ) (i : ℕ) → i < length xs → get_or xs i 0 ≡ 0 → all_zero (drop i xs) ≡ all_zero (drop (i + 1) xs)
-unfolding all_zero
-zero_more xs i h e = rw (drop_more xs i 0 h, e)
-
-pub zero_stops : (xs : List ℕ) (i : ℕ) → i < length xs → (get_or xs i 0 ≡ 0 → ⊥) → all_zero (drop i xs) ≡ false
-unfolding all_zero
-zero_stops xs i h ne = rw (drop_more xs i 0 h, ne_eqb (get_or xs i 0) 0 ne)
-
 pub zeros_from : (xs : List ℕ) → all_zero xs ≡ true → xs ≡ replicate (length xs) 0
-unfolding all_zero
 zeros_from [] e = refl
 zeros_from (x ∷ xs) e =
     let parts = and_parts (eqb x 0) (all_zero xs) e in
@@ -107,7 +98,6 @@ zeros_from (x ∷ xs) e =
     cc
 
 pub zeros_all : (n : ℕ) → all_zero (replicate n 0) ≡ true
-unfolding all_zero
 zeros_all zero = refl
 zeros_all (suc n) = zeros_all n
 

@@ -1,5 +1,6 @@
 -- Packets: a header of 32 bits, data and a check of 16 bits, one packet to a block.
-use Rattle.std.specs.Prelude.{◌≡◌, ℕ, ◌+◌, ◌-◌, ◌*◌, ◌<◌, ◌≤◌, Bool, true, false, cond, not, ◌&&◌, ◌||◌, List, [], ◌∷◌, ◌++◌, length, take, drop, replicate, Some, None, Ok, Err, Option, Result, ◌==◌, nat_eq, nat_le, nat_lt, slice_index_or}
+use Rattle.std.specs.Prelude.{◌≡◌, ℕ, ◌+◌, ◌-◌, ◌*◌, ◌<◌, ◌≤◌, Bool, false, cond, not, ◌&&◌, ◌||◌, List, [], ◌∷◌, ◌++◌, length, take, drop, replicate, Some, None, Ok, Err, Option, Result, ◌==◌, nat_eq, nat_le, nat_lt, slice_index_or}
+use Rattle.std.specs.List.{list_all}
 use Rattle.bits.specs.Bits.{◌⊕◌, AllBelow, bits_of, number_of, cut, spread}
 use Rattle.bits.specs.Crc16.{crc16_of}
 use Rattle.packets.specs.declared.parts.Header.{Header}
@@ -56,6 +57,10 @@ has_room size id count = nat_le 7 size && (nat_le size 1440 && (nat_lt id 1024 &
 abbrev pub content_of : Header → List ℕ → Content
 content_of h bytes = record { toggle = h.toggle; last = h.last; id = h.id; bytes = bytes }
 
+-- what a packet carries
+abbrev pub carried : Packet → Content
+carried p = content_of p.header p.«data».now
+
 -- What writing does: the block of the content where that fits, else nothing.
 abbrev pub Written : {A E : Type 0} → Content → (before after : List ℕ) → Result A E → Type 0
 Written c before after (Ok _) = Fits (length before) c × (after ≡ block_of (length before) c)
@@ -79,9 +84,8 @@ fields_in bits =
     }
 
 -- every byte is zero
-unfoldable pub all_zero : List ℕ → Bool
-all_zero [] = true
-all_zero (x ∷ xs) = x == 0 && all_zero xs
+abbrev pub all_zero : List ℕ → Bool
+all_zero = list_all (λ x. x == 0)
 
 -- a block is shorter or longer than any is
 abbrev pub wrong_size : ℕ → Bool
@@ -126,7 +130,7 @@ packet_in block = cond (is_bad block) None (Some (stated (fields_in (spread 8 bl
 
 -- the content that a reader's answer states, if it states one
 abbrev pub answered : Result Packet BadPacket → Option Content
-answered (Ok p) = Some (content_of p.header p.«data».now)
+answered (Ok p) = Some (carried p)
 answered (Err _) = None
 
 -- A reader's answer is right: a content exactly where it fits and the block is that content's.

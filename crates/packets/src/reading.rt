@@ -1,6 +1,7 @@
 // Reading a packet from a block.
 ghost use Rattle.std.specs.Prelude.{◌≡◌, ◌*◌, ◌≤◌, length};
-ghost use Rattle.packets.specs.Packets.{all_zero, answered, bad_block, fields_in, packet_in, Reads, wrong_check, wrong_filler, wrong_first, wrong_length, wrong_reserved};
+ghost use Rattle.std.specs.Bool.{OnFalse};
+ghost use Rattle.packets.specs.Packets.{answered, bad_block, fields_in, packet_in, Reads, wrong_check, wrong_filler, wrong_first, wrong_length, wrong_reserved, wrong_size};
 ghost use Rattle.bits.specs.Bits.{spread};
 
 use crate::parts::{BadPacket, Header, LEAST_BLOCK, MOST_BITS, MOST_BLOCK, Packet};
@@ -21,6 +22,7 @@ struct Fields {
 }
 
 impl Fields {
+    #[tactic(auto, unfolding(crate::specs::Packets::fields_in))]
     fn of(bits: &[bool]) -> Self
         requires { 32 ≤ length bits.now }
         ensures { result ≡ fields_in bits.now }
@@ -64,17 +66,17 @@ impl Fields {
     }
 
     fn wrong_filler(self, block: &[u8]) -> bool
-        requires { self.total ≤ length block.now }
         ensures { result ≡ wrong_filler self block.now }
     {
-        let total = self.total;
-        !all_zero(&block[total..])
+        !block.iter().skip(self.total).all(|byte| *byte == 0)
     }
 
     // Whether no sender makes a block with these fields and bits.
+    #[tactic(auto, unfolding(crate::specs::Packets::bad_block))]
     fn is_bad(self, block: &[u8], bits: &[bool]) -> bool
         requires { length bits.now ≡ 8 * length block.now }
-        ensures { result ≡ bad_block self block.now bits.now }
+        ensures value { result ≡ bad_block self block.now bits.now }
+        ensures within { OnFalse result ((7 ≤ self.total) × (self.total ≤ length block.now)) }
     {
         self.wrong_length(block.len())
             || self.wrong_check(bits)
@@ -84,15 +86,11 @@ impl Fields {
     }
 }
 
-fn all_zero(bytes: &[u8]) -> bool
-    ensures { result ≡ all_zero bytes.now }
+// Whether no block has so many bytes.
+fn wrong_size(size: usize) -> bool
+    ensures { result ≡ wrong_size size }
 {
-    for byte in bytes {
-        if *byte != 0 {
-            return false;
-        }
-    }
-    true
+    !(LEAST_BLOCK..=MOST_BLOCK).contains(&size)
 }
 
 /// The packet that a block holds.
@@ -100,7 +98,7 @@ pub fn read_packet(block: &[u8]) -> Result<Packet<'_>, BadPacket>
     ensures value { answered result ≡ packet_in block.now }
     ensures exactly { Reads block.now (answered result) }
 {
-    if block.len() < LEAST_BLOCK || block.len() > MOST_BLOCK {
+    if wrong_size(block.len()) {
         return Err(BadPacket);
     }
     let mut store = [false; MOST_BITS];

@@ -8,7 +8,8 @@ use Rattle.reed_solomon.specs.Words.{value_at, Roots, Symbols, added}
 use Rattle.reed_solomon.specs.Errors.{changed}
 use Rattle.reed_solomon.specs.Powers.{xor_twice, xor_none, xor_below, raised_lt, raised-xor, raised-zero, raised-add, raised_none, raised_back}
 use Rattle.reed_solomon.specs.ValuesLemmas.{symbols_head, symbols_tail, symbols_at, symbols_set, symbols_added, length-added, value_at-cons, value_at-zeros, value_at-lt, value_at-added}
-use Rattle.reed_solomon.specs.Distance.{weight, apart-same, apart_other, apart_cases, differs, differs_self, differs-weight, added_none}
+use Rattle.codes.specs.SymbolsLemmas.{apart-same, apart_other, apart_cases, differing_self}
+use Rattle.reed_solomon.specs.Distance.{weight, differs, differs-weight, added_none}
 
 -- ---- a list with one place that is not 0
 
@@ -130,7 +131,7 @@ symbols_changed given p e s h =
 pub differs-set : (xs : List ℕ) (i y : ℕ) → i < length xs → (y ≡ get_or xs i 0 → ⊥) → differs (set xs i y) xs ≡ 1
 unfolding differing
 differs-set [] i y h f = absurd (omega arith)
-differs-set (x ∷ xs) zero y h f = ap₂ ◌+◌ (apart_other y x f) (differs_self xs)
+differs-set (x ∷ xs) zero y h f = ap₂ ◌+◌ (apart_other y x f) (differing_self (λ (x : ℕ). x) xs)
 differs-set (x ∷ xs) (suc i) y h f = ap₂ ◌+◌ (apart-same x x refl) (differs-set xs i y (omega arith) f)
 
 pub differs-changed : (given : List ℕ) (p e : ℕ) → p < length given → 0 < e → differs (changed given p e) given ≡ 1

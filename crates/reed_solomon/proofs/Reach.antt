@@ -1,31 +1,29 @@
 -- What is within one place of the symbols given, by the values at the roots. Assumes nothing.
-use Rattle.std.proofs.Common.{◌≡◌, ℕ, zero, suc, ◌+◌, ◌-◌, ◌<◌, ◌≤◌, List, [], ◌∷◌, length, take, set, sym, refl, ap, ◌∙◌, subst, ⊎_elim, add-one, arith}
+use Rattle.std.proofs.Common.{◌≡◌, ℕ, Bool, true, false, get_or, zero, suc, ◌+◌, ◌-◌, ◌<◌, ◌≤◌, List, length, take, sym, refl, ap, ◌∙◌, subst, ⊎_elim, add-one, arith}
 use Rattle.std.proofs.lemmas.List.{length-take-le}
 use Rattle.codes.specs.Mending.{Within}
 use Rattle.codes.specs.Symbols.{differing}
-use Rattle.reed_solomon.specs.Field.{raised}
+use Rattle.std.specs.Prelude.{MatchBool}
+use Rattle.std.specs.List.{AllWithin, HoldsAt, range_with_len}
+use Rattle.std.proofs.lemmas.List.FromFn.{length-range_with_len, get_or-range_with_len}
+use Rattle.reed_solomon.specs.Field.{raised, times}
 use Rattle.reed_solomon.specs.Words.{Roots, Symbols, value_at, word_of, IsWord}
 use Rattle.reed_solomon.specs.Generators.{generator_of}
 use Rattle.reed_solomon.specs.Errors.{StepsBy, changed}
-use Rattle.reed_solomon.specs.Powers.{raised-zero, raised_none, raised_power}
+use Rattle.reed_solomon.specs.Powers.{raised-zero, raised_none, raised_power, times_power}
 use Rattle.reed_solomon.specs.ValuesLemmas.{symbols_take, value_at-lt}
 use Rattle.reed_solomon.specs.Division.{word_is}
-use Rattle.reed_solomon.specs.Distance.{word_from_roots, differs_self}
-use Rattle.reed_solomon.proofs.OneWrong.{OneError, one_wrong, wrong_first, wrong_step, Mends, mended}
+use Rattle.reed_solomon.specs.Distance.{word_from_roots}
+use Rattle.codes.specs.SymbolsLemmas.{differing_self}
+use Rattle.reed_solomon.proofs.OneWrong.{OneError, one_wrong, wrong_first, wrong_step, length-changed, symbols_changed, differs-changed}
 use Rattle.reed_solomon.specs.GeneratorsLemmas.{generator_is}
 
 -- a message of the code with r roots and k symbols whose word is within one place of the symbols given
 abbrev pub Near : ℕ → ℕ → List ℕ → List ℕ → ℕ → Type 0
 Near r k given = Within (λ (x : ℕ). x) k (word_of (generator_of r)) 1 given
 
-pub take-set-below : (k : ℕ) (xs : List ℕ) (i y : ℕ) → i < k → take k (set xs i y) ≡ set (take k xs) i y
-take-set-below zero xs i y h = absurd (omega arith)
-take-set-below (suc k) [] i y h = refl
-take-set-below (suc k) (x ∷ xs) zero y h = refl
-take-set-below (suc k) (x ∷ xs) (suc i) y h = ap (λ (ys : List ℕ). x ∷ ys) (take-set-below k xs i y (omega arith))
-
 -- the values stay 0 where the first is 0
-roots_from_steps : (r : ℕ) (cs : List ℕ) (p : ℕ) → value_at 1 cs ≡ 0 → StepsBy r cs p → Roots r cs
+pub roots_from_steps : (r : ℕ) (cs : List ℕ) (p : ℕ) → value_at 1 cs ≡ 0 → StepsBy r cs p → Roots r cs
 roots_from_steps r cs p first step zero h l = absurd (omega arith)
 roots_from_steps r cs p first step (suc zero) h l = first
 roots_from_steps r cs p first step (suc (suc j)) h l =
@@ -35,6 +33,26 @@ roots_from_steps r cs p first step (suc (suc j)) h l =
 steps_from_roots : (r : ℕ) (cs : List ℕ) (p : ℕ) → Roots r cs → StepsBy r cs p
 steps_from_roots r cs p roots j h l =
     roots (j + 1) (omega arith) (omega arith) ∙ sym (raised-zero p) ∙ ap (raised p) (sym (roots j h (omega arith)))
+
+-- what `all` tells of the roots but the last, at each of which the next value is compared with the value times α^p
+pub steps_decided : (r p step : ℕ) (given : List ℕ) → Symbols given → step ≡ raised p 1 → (b : Bool)
+    → MatchBool b (AllWithin (λ j. value_at (j + 1) given ≡ times (value_at j given) step) (range_with_len 1 (r - 1)) 0 (length (range_with_len 1 (r - 1))))
+    ((k : ℕ) × (k < length (range_with_len 1 (r - 1))) × HoldsAt (λ j. value_at (j + 1) given ≡ times (value_at j given) step → ⊥) (range_with_len 1 (r - 1)) k)
+    → MatchBool b (StepsBy r given p) (StepsBy r given p → ⊥)
+steps_decided r p step given below e true all =
+    λ j h l.
+    let n = length-range_with_len 1 (r - 1) in
+    let at : get_or (range_with_len 1 (r - 1)) (j - 1) 0 ≡ j = get_or-range_with_len 1 (r - 1) (j - 1) 0 (omega arith) ∙ omega arith in
+    rw at at (all (j - 1) 0 (omega arith) (omega arith))
+    ∙ ap (times (value_at j given)) e ∙ times_power (value_at j given) p (value_at-lt j given below)
+steps_decided r p step given below e false some =
+    λ steps.
+    let n = length-range_with_len 1 (r - 1) in
+    let k = some.0 in
+    let at : get_or (range_with_len 1 (r - 1)) k 0 ≡ k + 1 = get_or-range_with_len 1 (r - 1) k 0 (omega (arith, some.1)) ∙ omega arith in
+    (rw at at (some.2 0))
+    (steps (k + 1) (omega arith) (omega (arith, some.1))
+    ∙ sym (times_power (value_at (k + 1) given) p (value_at-lt (k + 1) given below)) ∙ ap (times (value_at (k + 1) given)) (sym e))
 
 module _ (r : ℕ) (given : List ℕ) (two : 2 ≤ r) (short : length given ≤ 127) (below : Symbols given) where
   -- the first two values tell the place
@@ -57,14 +75,12 @@ module _ (r : ℕ) (given : List ℕ) (two : 2 ≤ r) (short : length given ≤ 
           near = near;
         }
 
-    pub none_wrong : value_at 1 given ≡ 0 → StepsBy r given 0 → Near r k given (take k given) 0
-    none_wrong first step = from_roots given 0 refl below (roots_from_steps r given 0 first step) (differs_self given) (omega arith)
+    pub none_wrong : Roots r given → Near r k given (take k given) 0
+    none_wrong roots = from_roots given 0 refl below roots (differing_self (λ (x : ℕ). x) given) (omega arith)
 
-    pub one_mended : (p : ℕ) → p < length given → 0 < value_at 1 given → StepsBy r given p
-        → Near r k given (take k (changed given p (raised (127 - p) (value_at 1 given)))) 1
-    one_mended p h some step =
-        let m : Mends r given p (raised (127 - p) (value_at 1 given)) = mended r given p h short below some step in
-        from_roots (changed given p (raised (127 - p) (value_at 1 given))) 1 m.size m.symbols m.roots m.places (omega arith)
+    pub one_mended : (p e : ℕ) → p < length given → 0 < e → e < 128 → Roots r (changed given p e) → Near r k given (take k (changed given p e)) 1
+    one_mended p e h some symbol roots =
+        from_roots (changed given p e) 1 (length-changed given p e) (symbols_changed given p e below symbol) roots (differs-changed given p e h some) (omega arith)
 
     -- a word within reach has the given values, or one wrong symbol gives them
     reached : {A : Type 0} (m : List ℕ) (e : ℕ) → Near r k given m e → (Roots r given → A) → (OneError r given → A) → A

@@ -1,11 +1,11 @@
 -- What the tables of powers and logarithms hold. Assumes nothing.
-use Rattle.std.proofs.Common.{◌≡◌, ℕ, zero, suc, ◌+◌, ◌-◌, ◌*◌, ◌/◌, ◌%◌, ◌<◌, List, map, length, get_or, drop, sym, ap, ◌∙◌, arith}
+use Rattle.std.proofs.Common.{◌≡◌, ℕ, zero, suc, ◌+◌, ◌-◌, ◌*◌, ◌/◌, ◌%◌, ◌<◌, List, map, length, get_or, drop, sym, ap, ◌∙◌, add_comm, arith}
 use Rattle.std.specs.List.{range_with_len}
 use Rattle.std.proofs.lemmas.List.{get_or-map, get_or-drop, length-drop, length-map}
 use Rattle.std.proofs.lemmas.List.FromFn.{get_or-map-range_with_len, get_or-range_with_len, length-range_with_len}
 use Rattle.std.proofs.lemmas.Nat.{div-add-mod'}
-use Rattle.reed_solomon.specs.Field.{raised}
-use Rattle.reed_solomon.specs.Powers.{raised-add, raised_cycle, raised_lt}
+use Rattle.reed_solomon.specs.Field.{raised, times}
+use Rattle.reed_solomon.specs.Powers.{raised-add, raised_cycle, raised_lt, zero-times, times_power}
 
 turns : (q k a : ℕ) → a < 128 → raised (q * 127 + k) a ≡ raised k a
 turns zero k a h = ap (λ n. raised n a) (omega arith)
@@ -25,6 +25,14 @@ raised_between i j h =
     ∙ ap (λ n. raised n 1) (omega arith)
     ∙ raised-add 127 j 1
     ∙ raised_cycle (raised j 1) (raised_lt j 1 (omega arith))
+
+-- products of powers, and with 0
+pub times_powers : (a b i j : ℕ) → a < 128 → a ≡ raised i 1 → b ≡ raised j 1 → raised (i + j) 1 ≡ times a b
+times_powers a b i j h e f =
+    ap (λ n. raised n 1) (add_comm i j) ∙ raised-add j i 1 ∙ ap (raised j) (sym e) ∙ sym (times_power a j h) ∙ ap (times a) (sym f)
+
+pub none_times : (a b : ℕ) → a ≡ 0 → times a b ≡ 0
+none_times a b e = ap (λ n. times n b) e ∙ zero-times b
 
 pub power_at : (xs : List ℕ) (k : ℕ) → xs ≡ map (λ n. raised n 1) (range_with_len 0 127) → get_or xs (k % 127) 0 ≡ raised k 1
 power_at xs k e =

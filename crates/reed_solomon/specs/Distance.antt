@@ -1,10 +1,10 @@
 -- Few wrong places: a list with r roots and at most r places that are not 0 is 0 throughout, so words are far apart.
 -- Assumes nothing.
-use Rattle.std.specs.Prelude.{◌≡◌, ℕ, zero, suc, ◌+◌, ◌*◌, ◌<◌, ◌≤◌, Bool, cond, ◌⊎◌, List, [], ◌∷◌, length, take, drop, replicate, ◌≢◌, bit_xor, slice_index, refl}
-use Rattle.std.proofs.Common.{sym, ap, ap₂, ◌∙◌, inl, inr, ⊎_elim, mul-suc, suc-ne-zero, le_refl, arith, length-take-le}
+use Rattle.std.specs.Prelude.{◌≡◌, ℕ, zero, suc, ◌+◌, ◌*◌, ◌<◌, ◌≤◌, List, [], ◌∷◌, length, take, drop, replicate, bit_xor, slice_index, refl}
+use Rattle.std.proofs.Common.{sym, ap, ap₂, ◌∙◌, ⊎_elim, mul-suc, suc-ne-zero, le_refl, arith, length-take-le}
 use Rattle.std.proofs.Math.Nat.{suc_inj}
-use Rattle.std.proofs.lemmas.Bool.{eq-eqb, ne_eqb, cases_eq}
 use Rattle.codes.specs.Symbols.{Below128, apart, differing}
+use Rattle.codes.specs.SymbolsLemmas.{apart-same, apart_other, apart_cases, apart-le, differing_comm, differing-le, differing_through}
 use Rattle.reed_solomon.specs.Field.{raised}
 use Rattle.reed_solomon.specs.Words.{value_at, Roots, Symbols, IsWord, Generator, added, word_of}
 use Rattle.reed_solomon.specs.Powers.{xor_swap, xor_same, xor_none, xor_below, raised_lt, raised-xor, raised-zero, raised-add, raised_comm, raised_none, raised-apart}
@@ -13,31 +13,10 @@ use Rattle.reed_solomon.specs.Division.{take-word_of, word_is}
 
 -- ---- places in which two lists differ
 
-pub apart-same : (a b : ℕ) → a ≡ b → apart a b ≡ 0
-apart-same a b e = ap (λ (t : Bool). cond t 0 1) (eq-eqb a b e)
-
-pub apart_other : (a b : ℕ) → (a ≢ b) → apart a b ≡ 1
-apart_other a b f = ap (λ (t : Bool). cond t 0 1) (ne_eqb a b f)
-
--- two numbers are the same, or they differ
-pub apart_cases : (a b : ℕ) → ((a ≡ b) × (apart a b ≡ 0)) ⊎ ((a ≢ b) × (apart a b ≡ 1))
-apart_cases a b = ⊎_elim (λ e. inl (e, apart-same a b e)) (λ f. inr (f, apart_other a b f)) (cases_eq a b)
-
-apart-le : (a b : ℕ) → apart a b ≤ 1
-apart-le a b = ⊎_elim (λ e. omega (arith, e.1)) (λ f. omega (arith, f.1)) (apart_cases a b)
-
 apart-xor : (a b : ℕ) → apart (bit_xor a b) 0 ≡ apart a b
 apart-xor a b =
     ⊎_elim (λ e. apart-same (bit_xor a b) 0 (xor_none a b e.0) ∙ sym e.1)
     (λ f. apart_other (bit_xor a b) 0 (λ e. f.0 (xor_same a b e)) ∙ sym f.1) (apart_cases a b)
-
-apart_comm : (a b : ℕ) → apart a b ≡ apart b a
-apart_comm a b =
-    ⊎_elim (λ e. e.1 ∙ sym (apart-same b a (sym e.0))) (λ f. f.1 ∙ sym (apart_other b a (λ e. f.0 (sym e)))) (apart_cases a b)
-
-apart_through : (a b c : ℕ) → apart a c ≤ apart a b + apart b c
-apart_through a b c =
-    ⊎_elim (λ e. omega (arith, ap (λ (x : ℕ). apart x c) e.0)) (λ f. omega (arith, f.1, apart-le a c)) (apart_cases a b)
 
 -- the places of a list that are not 0
 unfoldable pub weight : List ℕ → ℕ
@@ -54,18 +33,6 @@ differs-weight [] (y ∷ ys) e = absurd (suc-ne-zero (length ys) (sym e))
 differs-weight (x ∷ xs) [] e = absurd (suc-ne-zero (length xs) e)
 differs-weight (x ∷ xs) (y ∷ ys) e = ap₂ ◌+◌ (sym (apart-xor x y)) (differs-weight xs ys (suc_inj e))
 
-pub differs_comm : (xs ys : List ℕ) → differs xs ys ≡ differs ys xs
-unfolding differing
-differs_comm [] [] = refl
-differs_comm [] (y ∷ ys) = refl
-differs_comm (x ∷ xs) [] = refl
-differs_comm (x ∷ xs) (y ∷ ys) = ap₂ ◌+◌ (apart_comm x y) (differs_comm xs ys)
-
-pub differs_self : (xs : List ℕ) → differs xs xs ≡ 0
-unfolding differing
-differs_self [] = refl
-differs_self (x ∷ xs) = ap₂ ◌+◌ (apart-same x x refl) (differs_self xs)
-
 pub differs_none : (xs ys : List ℕ) → differs xs ys ≡ 0 → xs ≡ ys
 unfolding differing
 differs_none [] [] e = refl
@@ -74,27 +41,10 @@ differs_none (x ∷ xs) [] e = absurd (suc-ne-zero (length xs) e)
 differs_none (x ∷ xs) (y ∷ ys) e =
     ⊎_elim (λ s. ap₂ ◌∷◌ s.0 (differs_none xs ys (omega arith))) (λ f. absurd (omega (arith, f.1))) (apart_cases x y)
 
-pub differs_through : (xs ys zs : List ℕ) → length xs ≡ length ys → length ys ≡ length zs → differs xs zs ≤ differs xs ys + differs ys zs
-unfolding differing
-differs_through [] [] [] d e = le_refl 0
-differs_through [] [] (z ∷ zs) d e = absurd (omega arith)
-differs_through [] (y ∷ ys) zs d e = absurd (omega arith)
-differs_through (x ∷ xs) [] zs d e = absurd (omega arith)
-differs_through (x ∷ xs) (y ∷ ys) [] d e = absurd (omega arith)
-differs_through (x ∷ xs) (y ∷ ys) (z ∷ zs) d e =
-    omega (arith, apart_through x y z, differs_through xs ys zs (suc_inj d) (suc_inj e))
-
-pub differs-le : (xs ys : List ℕ) → length xs ≡ length ys → differs xs ys ≤ length xs
-unfolding differing
-differs-le [] [] e = le_refl 0
-differs-le [] (y ∷ ys) e = absurd (omega arith)
-differs-le (x ∷ xs) [] e = absurd (omega arith)
-differs-le (x ∷ xs) (y ∷ ys) e = omega (arith, apart-le x y, differs-le xs ys (suc_inj e))
-
 -- lists that begin alike differ behind that
 pub differs_front : (n : ℕ) (xs ys : List ℕ) → length xs ≡ length ys → n ≤ length xs → take n xs ≡ take n ys → differs xs ys + n ≤ length xs
 unfolding differing
-differs_front zero xs ys e h t = omega (arith, differs-le xs ys e)
+differs_front zero xs ys e h t = omega (arith, differing-le (λ (x : ℕ). x) xs ys e)
 differs_front (suc n) [] ys e h t = absurd (omega arith)
 differs_front (suc n) (x ∷ xs) [] e h t = absurd (omega arith)
 differs_front (suc n) (x ∷ xs) (y ∷ ys) e h t =
@@ -258,4 +208,4 @@ word_from_roots r g k w gen p b n s roots =
 pub only_near : (r t : ℕ) (w v given : List ℕ) → t + t ≤ r → length w ≡ length given → length v ≡ length given → length given ≤ 127 → Symbols w → Symbols v → Roots r w → Roots r v → differs w given ≤ t → differs v given ≤ t → w ≡ v
 only_near r t w v given h e f b s u p q d k =
     few-differing r w v (omega arith) (omega arith) s u p q
-    (omega (arith, differs_through w given v e (omega arith), differs_comm given v))
+    (omega (arith, differing_through (λ (x : ℕ). x) w given v e (omega arith), differing_comm (λ (x : ℕ). x) given v))

@@ -6,6 +6,7 @@ use Rattle.std.proofs.Math.Nat.{suc_inj}
 use Rattle.std.specs.Int.Bits.{xor_assoc, xor_zero_r}
 use Rattle.std.proofs.lemmas.List.{length-map}
 use Rattle.codes.specs.Symbols.{Below128}
+use Rattle.std.specs.Coded.{×_prop, Unit-prop, le_prop}
 use Rattle.reed_solomon.specs.Field.{raised, times}
 use Rattle.reed_solomon.specs.Words.{value_at, Symbols, added}
 use Rattle.reed_solomon.specs.Powers.{xor_swap, xor_below, raised_lt, raised-xor, raised-zero, raised_none_of, raised-add, times-lt, times-xor, times-raised, times_zero}
@@ -137,3 +138,8 @@ value_at-times j f [] = sym (times_zero f)
 value_at-times j f (c ∷ cs) =
     ap₂ bit_xor (ap (λ (n : ℕ). raised (n * j) (times f c)) (length-map cs (times f)) ∙ sym (times-raised f (length cs * j) c)) (value_at-times j f cs)
     ∙ sym (times-xor f (raised (length cs * j) c) (value_at j cs))
+
+pub symbols_prop : (cs : List ℕ) → IsProp (Symbols cs)
+unfolding Below128
+symbols_prop [] = Unit-prop
+symbols_prop (c ∷ cs) = ×_prop le_prop (symbols_prop cs)

@@ -25,12 +25,14 @@ static LOGARITHMS: [u8; 128] = [
     20, 74, 48, 112, 90, 100, 96, 97, 72, 98, 53, 73, 111, 99,
 ];
 
+#[tactic(auto, unfolding(crate::specs::Field::alpha, crate::specs::Field::raised))]
 fn powers() -> &'static [u8; 127]
     ensures { result.now ≡ map (λ k. raised k 1) (range_with_len 0 127) }
 {
     &POWERS
 }
 
+#[tactic(auto, unfolding(crate::specs::Field::alpha, crate::specs::Field::raised))]
 fn logarithms() -> &'static [u8; 128]
     ensures powers { map (λ x. raised x 1) (drop 1 result.now) ≡ range_with_len 1 127 }
     ensures below { map (λ x. x % 127) result.now ≡ result.now }
@@ -39,6 +41,7 @@ fn logarithms() -> &'static [u8; 128]
 }
 
 // α^k
+#[tactic(auto, using(crate::specs::Powers::raised_lt, crate::proofs::Tables::power_at))]
 pub(crate) fn power(k: usize) -> SevenBit
     ensures { result.number ≡ raised k 1 }
 {
@@ -46,6 +49,7 @@ pub(crate) fn power(k: usize) -> SevenBit
 }
 
 // The k below 127 with a = α^k.
+#[tactic(auto, using(crate::proofs::Tables::logarithm_at, crate::proofs::Tables::logarithm_below))]
 fn logarithm(a: SevenBit) -> usize
     requires { 0 < a.number }
     ensures below { result < 127 }
@@ -55,6 +59,7 @@ fn logarithm(a: SevenBit) -> usize
 }
 
 // The p below 127 with b = α^p · a.
+#[tactic(auto, using(crate::proofs::Tables::raised_between))]
 pub(crate) fn ratio(a: SevenBit, b: SevenBit) -> usize
     requires a_some { 0 < a.number }
     requires b_some { 0 < b.number }
@@ -65,6 +70,7 @@ pub(crate) fn ratio(a: SevenBit, b: SevenBit) -> usize
 }
 
 // The sum of two symbols.
+#[tactic(auto, using(crate::specs::Powers::xor_below))]
 pub(crate) fn sum(a: SevenBit, b: SevenBit) -> SevenBit
     ensures { result.number ≡ bit_xor a.number b.number }
 {
@@ -72,6 +78,7 @@ pub(crate) fn sum(a: SevenBit, b: SevenBit) -> SevenBit
 }
 
 // The product of two symbols.
+#[tactic(auto, using(crate::proofs::Tables::times_powers, crate::proofs::Tables::none_times, crate::specs::Powers::times_zero))]
 pub fn product(a: SevenBit, b: SevenBit) -> SevenBit
     ensures { result.number ≡ times a.number b.number }
 {

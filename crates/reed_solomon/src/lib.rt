@@ -1,9 +1,8 @@
 // Reed-Solomon codes over GF(128), by their roots.
 #![tactic(auto)]
 
-mod encode;
+pub mod code;
 pub mod field;
 mod mend;
-pub mod mis;
 mod polynomials;
-pub mod tis;
+pub mod streams;

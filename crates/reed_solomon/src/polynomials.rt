@@ -1,63 +1,57 @@
 // Polynomials over GF(128), by their coefficients: the highest power stands first.
-ghost use Rattle.std.specs.Prelude.{◌≡◌, ◌<◌, length, slice_index};
-ghost use Rattle.reed_solomon.specs.Words.{Symbols, divide_step, divided, value_at};
+ghost use Rattle.std.specs.Prelude.{◌≡◌, slice_index, length};
+ghost use Rattle.reed_solomon.specs.Words.{Symbols, value_at};
+ghost use Rattle.reed_solomon.specs.ValuesLemmas.{symbols_prop};
 
 use crate::field::{power, product, sum};
 use codes::seven::SevenBit;
 
-// The value at α^j.
-pub(crate) fn value_at(coefficients: &[u8], j: usize) -> SevenBit
-    requires { Symbols coefficients.now }
-    ensures { result.number ≡ value_at j coefficients.now }
-{
-    let point = power(j);
-    let mut value = SevenBit::of(0);
-    for c in coefficients {
-        value = sum(product(value, point), SevenBit::of(*c));
-    }
-    value
+// The coefficients, which are symbols.
+#[derive(Clone, Copy)]
+pub(crate) struct Polynomial<'a> {
+    coefficients: &'a [u8],
+    ghost below: { Symbols coefficients.now } by { symbols_prop coefficients.now },
 }
 
-// The symbol at a place, and 0 past the end.
-fn symbol_at(symbols: &[u8], i: usize) -> SevenBit
-    requires { Symbols symbols.now }
-    ensures { result.number ≡ slice_index symbols.now i }
-{
-    if i < symbols.len() {
-        SevenBit::of(symbols[i])
-    } else {
-        SevenBit::of(0)
+impl<'a> Polynomial<'a> {
+    pub(crate) fn new(coefficients: &'a [u8]) -> Self
+        requires { Symbols coefficients.now }
+        ensures { result.coefficients.now ≡ coefficients.now }
+    {
+        Polynomial { coefficients }
     }
-}
 
-// One more symbol of what is divided goes into the remainder.
-fn step(generator: &[u8], rest: &mut [u8], symbol: SevenBit)
-    requires some { 0 < length generator.now }
-    requires size { length rest.old ≡ length generator.now }
-    requires below { Symbols generator.now }
-    requires rest_below { Symbols rest.old }
-    ensures { rest.new ≡ divide_step generator.now rest.old symbol.number }
-{
-    let factor = sum(symbol, symbol_at(rest, 0));
-    for i in 0..rest.len() {
-        rest[i] = sum(
-            symbol_at(rest, i + 1),
-            product(factor, symbol_at(generator, i)),
-        )
-        .number();
+    pub(crate) fn as_slice(self) -> &'a [u8]
+        ensures { result.now ≡ self.entry.coefficients.now }
+    {
+        self.coefficients
     }
-}
 
-// The remainder goes on through the division of the symbols by the generator.
-pub(crate) fn divide(generator: &[u8], symbols: &[u8], rest: &mut [u8])
-    requires some { 0 < length generator.now }
-    requires size { length rest.old ≡ length generator.now }
-    requires below { Symbols generator.now }
-    requires symbols_below { Symbols symbols.now }
-    requires rest_below { Symbols rest.old }
-    ensures { rest.new ≡ divided generator.now rest.old symbols.now }
-{
-    for c in symbols {
-        step(generator, rest, SevenBit::of(*c));
+    // How many coefficients there are.
+    pub(crate) fn len(self) -> usize
+        ensures { result ≡ length self.entry.coefficients.now }
+    {
+        self.coefficients.len()
+    }
+
+    // The coefficient at a place from the front, and 0 past the end.
+    #[tactic(auto, using(crate::specs::ValuesLemmas::symbols_at))]
+    pub(crate) fn coefficient(self, i: usize) -> SevenBit
+        ensures { result.number ≡ slice_index self.entry.coefficients.now i }
+    {
+        SevenBit::of(self.coefficients.get(i).copied().unwrap_or(0))
+    }
+
+    // The value at α^j.
+    #[tactic(auto, using(crate::specs::ValuesLemmas::symbols_at, crate::specs::ValuesLemmas::value_at_none))]
+    pub(crate) fn value_at(self, j: usize) -> SevenBit
+        ensures { result.number ≡ value_at j self.entry.coefficients.now }
+    {
+        let point = power(j);
+        let mut value = SevenBit::of(0);
+        for c in self.coefficients {
+            value = sum(product(value, point), SevenBit::of(*c));
+        }
+        value
     }
 }

@@ -1,12 +1,12 @@
 -- A reader of MIS records answers a mode exactly where the bits are that mode's record.
-use Rattle.std.proofs.Common.{◌≡◌, ℕ, ◌<◌, Bool, true, false, ◌||◌, eqb, List, [], ◌∷◌, ◌++◌, length, take, drop, Ok, Err, Result, sym, refl, ap, ◌∙◌, inl, inr, arith, lit<}
-use Rattle.std.proofs.lemmas.Bool.{cases_Bool, eq-eqb, eqb-false, eqb-true, ne_eqb, or_parts}
+use Rattle.std.proofs.Common.{◌≡◌, ℕ, ◌<◌, Bool, false, ◌||◌, eqb, List, [], ◌∷◌, ◌++◌, length, take, drop, Ok, Err, Result, sym, refl, ap, ◌∙◌, inl, inr, arith, lit<}
+use Rattle.std.proofs.lemmas.Bool.{cases_Bool, eqb-false, eqb-true, ne_eqb, or_parts}
 use Rattle.std.proofs.lemmas.List.{take_all}
-use Rattle.bits.specs.Bits.{bits_of}
+use Rattle.bits.specs.Bits.{bits_of, field_at}
 use Rattle.modes.specs.Modes.{occupancy_number, tis_number, data_number, numbered, occupancy_of, tis_of, data_of}
 use Rattle.modes.specs.declared.unknown.UnknownNumber.{UnknownNumber}
 use Rattle.streams.specs.Mis.{mis_fields, mis_stated, mode_of}
-use Rattle.streams.specs.Records.{ReadsBits, field_at}
+use Rattle.streams.specs.Records.{ReadsBits}
 use Rattle.modes.specs.declared.mode.Occupancy.{Occupancy}
 use Rattle.modes.specs.declared.mode.Occupancy.TheVariants.{Khz1, Khz3, Khz5, Khz10}
 use Rattle.modes.specs.declared.mode.TisConstellation.{TisConstellation}
@@ -15,8 +15,8 @@ use Rattle.modes.specs.declared.mode.DataConstellation.{DataConstellation}
 use Rattle.modes.specs.declared.mode.DataConstellation.TheVariants.{Qam4 as DataQam4, Qam16 as DataQam16, Qam64 as DataQam64}
 use Rattle.modes.specs.declared.mode.Mis.{Mis}
 use Rattle.streams.specs.declared.records.BadRecord.{BadRecord}
-use Rattle.bits.proofs.Bits.{number_of-bits_of, field_back, take_plus}
-use Rattle.streams.proofs.RecordLaws.{field_below, part_length}
+use Rattle.bits.proofs.Bits.{field_back, field_below, number_of-bits_of, part_length}
+use Rattle.std.proofs.Common.{take-add}
 
 -- what has a number is found by it
 numbered_is : {X : Type 0} (number : X → ℕ) (xs : List X) (n : ℕ) (x : X) → numbered number xs n ≡ Ok x → n ≡ number x
@@ -74,10 +74,6 @@ module _ (m : Mis) where
         (data_found m.«data»).2,
       )
 
-  pub length-mis_fields : length (mis_fields m) ≡ 6
-  unfolding mis_fields bits_of
-  length-mis_fields = refl
-
 -- the parts of a mode that was made
 mode_of_parts : (x : Result Occupancy UnknownNumber) (y : Result TisConstellation UnknownNumber) (z : Result DataConstellation UnknownNumber) (m : Mis) → mode_of x y z ≡ Ok m →
     (x ≡ Ok m.occupancy) × (y ≡ Ok m.tis) × (z ≡ Ok m.«data»)
@@ -109,7 +105,7 @@ module _ (bits : List Bool) (size : length bits ≡ 6) (m : Mis) (e : mis_stated
       let o = numbered_is occupancy_number (Khz1 ∷ Khz3 ∷ Khz5 ∷ Khz10 ∷ []) (field_at 0 2 bits) m.occupancy parts.0 in
       let t = numbered_is tis_number (TisQam4 ∷ TisQam16 ∷ []) (field_at 2 1 bits) m.tis parts.1 in
       let d = numbered_is data_number (DataQam4 ∷ DataQam16 ∷ DataQam64 ∷ []) (field_at 3 2 bits) m.«data» parts.2 in
-      let below = field_below bits 5 1 in
+      let below = field_below 5 1 bits in
       let other = eqb-false (field_at 5 1 bits) 1 (or_parts (eqb (field_at 5 1 bits) 1) (eqb (field_at 3 2 bits) 3) stated_good).0 in
       let fill : field_at 5 1 bits ≡ 0 = omega arith in
       let whole : take 6 bits ≡ bits = take_all 6 bits (omega arith) in
@@ -119,9 +115,9 @@ module _ (bits : List Bool) (size : length bits ≡ 6) (m : Mis) (e : mis_stated
         field_back 1 (tis_number m.tis) (take 1 (drop 2 bits)) (part_length bits 2 1 (omega arith)) t,
         field_back 2 (data_number m.«data») (take 2 (drop 3 bits)) (part_length bits 3 2 (omega arith)) d,
         field_back 1 0 (take 1 (drop 5 bits)) (part_length bits 5 1 (omega arith)) fill,
-        take_plus 5 1 bits,
-        take_plus 3 2 bits,
-        take_plus 2 1 bits,
+        take-add 5 1 bits,
+        take-add 3 2 bits,
+        take-add 2 1 bits,
       ) in
       sym whole ∙ sym joined
 
@@ -149,7 +145,7 @@ module _ (bits : List Bool) (x : Result Occupancy UnknownNumber) (y : Result Tis
       let fill = ne_eqb (field_at 5 1 bits) 1 unfilled in
       elim (cases_Bool (eqb (field_at 3 2 bits) 3)) [
         | inl t ↦
-          let none : z ≡ Err (record {}) = r ∙ ap data_of (eqb-true (field_at 3 2 bits) 3 t) in
-          rw (fill, t) (ap (mode_of x y) none ∙ mode_of_none x y (record {}))
+            let none : z ≡ Err (record {}) = r ∙ ap data_of (eqb-true (field_at 3 2 bits) 3 t) in
+            rw (fill, t) (ap (mode_of x y) none ∙ mode_of_none x y (record {}))
         | inr t ↦ rw (p, q, r, fill, t)
       ]

@@ -1,25 +1,14 @@
 -- Laws of records: fields one after the other, and behind them their check of eight bits.
-use Rattle.std.proofs.Common.{◌≡◌, ℕ, ◌+◌, ◌^◌, ◌<◌, ◌≤◌, Bool, true, false, eqb, List, ◌++◌, length, take, drop, is_err, Ok, Err, Result, sym, refl, ap, ◌∙◌, arith, pow_mono}
+use Rattle.std.proofs.Common.{◌≡◌, ℕ, ◌+◌, Bool, true, List, ◌++◌, length, take, drop, is_err, Ok, Err, Result, sym, refl, ap, ◌∙◌, arith}
 use borrow.Rule.Slice.PartMut.{put_mid}
-use Rattle.std.proofs.lemmas.List.{append-nil, drop_all, drop_at, length-append, length-drop, length-take, take_all, take-append-drop, take_at}
+use Rattle.std.proofs.lemmas.List.{append-nil, drop_all, drop_at, length-append, length-drop, take-append-drop, take_at}
 use Rattle.std.proofs.lemmas.Bool.{eq-eqb, false≢true, ne_eqb}
 use Rattle.bits.specs.Bits.{bits_of, number_of}
 use Rattle.bits.specs.Crc.{crc8_of}
-use Rattle.streams.specs.Records.{ReadsBits, field_at, record_read, with_check}
+use Rattle.streams.specs.Records.{ReadsBits, record_read, with_check}
 use Rattle.streams.specs.declared.records.BadRecord.{BadRecord}
-use Rattle.bits.proofs.Bits.{field_back, field_more, length-bits_of, number_of-below, number_of-bits_of}
+use Rattle.bits.proofs.Bits.{field_back, field_more, length-bits_of, number_of-bits_of}
 use Rattle.bits.proofs.Remainders.{crc_below}
-
--- a part of the bits has the length that is taken
-pub part_length : (bits : List Bool) (a w : ℕ) → a + w ≤ length bits → length (take w (drop a bits)) ≡ w
-part_length bits a w h = simp (length-take, length-drop) (omega arith)
-
--- a field fits its width
-pub field_below : (bits : List Bool) (a w : ℕ) → field_at a w bits < 2 ^ w
-field_below bits a w =
-    let q : length (take w (drop a bits)) ≤ w = simp length-take (omega arith) in
-    let p : 2 ^ length (take w (drop a bits)) ≤ 2 ^ w = pow_mono q in
-    omega (arith, number_of-below (take w (drop a bits)))
 
 -- bits are the fields and their check where the check is right
 check_right : (bits fields : List Bool) (size : ℕ) → length bits ≡ size + 8 → take size bits ≡ fields → number_of (drop size bits) ≡ crc8_of (take size bits) →
@@ -32,7 +21,7 @@ check_right bits fields size long e right =
 
 -- the parts of a record
 module _ (fields : List Bool) (size : ℕ) (long : length fields ≡ size) where
-  fields_front : take size (with_check fields) ≡ fields
+  pub fields_front : take size (with_check fields) ≡ fields
   unfolding with_check
   fields_front = take_at fields (bits_of 8 (crc8_of fields)) size long
 
@@ -40,16 +29,17 @@ module _ (fields : List Bool) (size : ℕ) (long : length fields ≡ size) where
   unfolding with_check
   check_back =
       ap number_of (drop_at fields (bits_of 8 (crc8_of fields)) size long)
-      ∙ number_of-bits_of 8 (crc8_of fields) (crc_below 8 29 fields (crc8_of fields) refl)
+      ∙ number_of-bits_of 8 (crc8_of fields) (crc_below 8 29 fields)
+
+pub length-with_check : (fields : List Bool) → length (with_check fields) ≡ length fields + 8
+unfolding with_check
+length-with_check fields = length-append fields (bits_of 8 (crc8_of fields)) ∙ ap (λ n. length fields + n) (length-bits_of 8 (crc8_of fields))
 
 -- reading a record answers what is stated exactly where the bits are its record, when reading its fields does
 module _ {R : Type 0} (fields : R → List Bool) (stated : List Bool → Result R BadRecord) (size : ℕ) (bits : List Bool) (long : length bits ≡ size + 8) where
   -- a record of these bits has so many bits of fields
   fields_sized : (x : R) → bits ≡ with_check (fields x) → length (fields x) ≡ size
-  unfolding with_check
-  fields_sized x is =
-      let both : length bits ≡ length (fields x) + 8 = ap length is ∙ length-append (fields x) (bits_of 8 (crc8_of (fields x))) ∙ ap (λ n. length (fields x) + n) (length-bits_of 8 (crc8_of (fields x))) in
-      omega arith
+  fields_sized x is = omega (arith, ap length is, length-with_check (fields x))
 
   pub record_refused : (number_of (drop size bits) ≡ crc8_of (take size bits) → ⊥) → Err (record {}) ≡ record_read size stated bits
   unfolding record_read
@@ -60,17 +50,19 @@ module _ {R : Type 0} (fields : R → List Bool) (stated : List Bool → Result 
   record_taken right = rw (eq-eqb (number_of (drop size bits)) (crc8_of (take size bits)) right)
 
   pub refused_exactly : (number_of (drop size bits) ≡ crc8_of (take size bits) → ⊥) → ReadsBits (λ (x : R). with_check (fields x)) bits (Err (record {}))
-  refused_exactly wrong x =
-      (λ is. let z : ◌≡◌ {A = ℕ} 0 1 = cc in absurd (omega arith),
-      λ is.
+  refused_exactly wrong x = (
+    λ is. let z : ◌≡◌ {A = ℕ} 0 1 = cc in absurd (omega arith),
+    λ is.
         let sized = fields_sized x is in
-        absurd (wrong (ap (λ l. number_of (drop size l)) is ∙ check_back (fields x) size sized ∙ ap crc8_of (sym (fields_front (fields x) size sized) ∙ ap (take size) (sym is)))))
+        absurd (wrong (ap (λ l. number_of (drop size l)) is ∙ check_back (fields x) size sized ∙ ap crc8_of (sym (fields_front (fields x) size sized) ∙ ap (take size) (sym is)))),
+  )
 
   pub taken_exactly : (r : Result R BadRecord) → number_of (drop size bits) ≡ crc8_of (take size bits) →
       ReadsBits fields (take size bits) r → ReadsBits (λ (x : R). with_check (fields x)) bits r
-  taken_exactly r right exactly x =
-      (λ is. check_right bits (fields x) size long ((exactly x).0 is) right,
-      λ is. (exactly x).1 (ap (take size) is ∙ fields_front (fields x) size (fields_sized x is)))
+  taken_exactly r right exactly x = (
+    λ is. check_right bits (fields x) size long ((exactly x).0 is) right,
+    λ is. (exactly x).1 (ap (take size) is ∙ fields_front (fields x) size (fields_sized x is)),
+  )
 
 -- the fields stand before eight bits, and then their check is written there
 pub check_written : (fields front tail part : List Bool) (size check n : ℕ) → length fields ≡ size → front ≡ fields → length tail ≡ 8 →

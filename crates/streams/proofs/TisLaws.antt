@@ -1,10 +1,10 @@
 -- A reader of TIS records answers what a TIS states exactly where the bits are its record.
-use Rattle.std.proofs.Common.{◌≡◌, ℕ, ◌<◌, Bool, true, false, not, ◌&&◌, eqb, ltb, leb, List, ◌++◌, length, take, drop, is_err, Some, None, Ok, Err, Option, Result, sym, refl, ap, ◌∙◌, inl, inr, arith, lit<}
+use Rattle.std.proofs.Common.{◌≡◌, ℕ, ◌<◌, Bool, true, false, ◌&&◌, eqb, ltb, leb, List, ◌++◌, length, take, drop, Some, None, Ok, Err, Option, Result, sym, refl, ap, ◌∙◌, inl, inr, arith, lit<}
 use native.Mathlib.Bridge.{le_prop}
 use Rattle.std.specs.Option.{ok_or}
-use Rattle.std.proofs.lemmas.Bool.{and_from, cases_Bool, eq-eqb, eqb-true, false≢true, le-leb, lt-ltb, ltb-true, ne_eqb}
-use Rattle.bits.specs.Bits.{bits_of}
-use Rattle.streams.specs.Records.{ReadsBits, field_at}
+use Rattle.std.proofs.lemmas.Bool.{and_from, cases_Bool, eqb-true, false≢true, le-leb, lt-ltb, ltb-true, ne_eqb}
+use Rattle.bits.specs.Bits.{bits_of, field_at}
+use Rattle.streams.specs.Records.{ReadsBits}
 use Rattle.modes.specs.Station.{Allowed}
 use Rattle.modes.specs.Stations.{allowed?, checked, is_allowed, station_of, tis_made}
 use Rattle.modes.specs.Modes.{data_coding, rate_number}
@@ -17,9 +17,9 @@ use Rattle.streams.specs.declared.records.BadRecord.{BadRecord}
 use Rattle.modes.specs.declared.station.Station.{Station}
 use Rattle.modes.specs.declared.station.Tis.{Tis}
 use Rattle.std.proofs.lemmas.List.{take_all}
-use Rattle.bits.proofs.Bits.{field_back, number_of-bits_of, take_plus}
+use Rattle.bits.proofs.Bits.{field_back, field_below, number_of-bits_of, part_length}
+use Rattle.std.proofs.Common.{take-add}
 use Rattle.streams.proofs.MisLaws.{data_found, occupancy_found}
-use Rattle.streams.proofs.RecordLaws.{field_below, part_length}
 
 -- what was made where a test holds
 checked_is : {X : Type 0} (test : Bool) (make : test ≡ true → X) (x : X) → test ≡ true → ((e : test ≡ true) → make e ≡ x) → checked test make ≡ Some x
@@ -120,10 +120,6 @@ module _ (t : Tis) where
   pub tis_stated_back : tis_stated (tis_fields t) ≡ Ok t
   tis_stated_back = stated_as (tis_fields t) t reserved_field coding_field number_field hour_field minute_field duration_field
 
-  pub length-tis_fields : length (tis_fields t) ≡ 55
-  unfolding tis_fields bits_of
-  length-tis_fields = refl
-
 -- bits that state something are its fields
 module _ (bits : List Bool) (size : length bits ≡ 55) (t : Tis) (e : tis_stated bits ≡ Ok t) where
   stated_good : eqb (field_at 52 3 bits) 0 ≡ true
@@ -153,11 +149,11 @@ module _ (bits : List Bool) (size : length bits ≡ 55) (t : Tis) (e : tis_state
         field_back 6 s.minute (take 6 (drop 40 bits)) (part_length bits 40 6 (omega arith)) numbers.2,
         field_back 6 s.duration (take 6 (drop 46 bits)) (part_length bits 46 6 (omega arith)) numbers.3,
         field_back 3 0 (take 3 (drop 52 bits)) (part_length bits 52 3 (omega arith)) (eqb-true (field_at 52 3 bits) 0 stated_good),
-        take_plus 52 3 bits,
-        take_plus 46 6 bits,
-        take_plus 40 6 bits,
-        take_plus 35 5 bits,
-        take_plus 5 30 bits,
+        take-add 52 3 bits,
+        take-add 46 6 bits,
+        take-add 40 6 bits,
+        take-add 35 5 bits,
+        take-add 5 30 bits,
       ) in
       sym whole ∙ sym joined
 
@@ -189,7 +185,7 @@ stated_accepted bits k s fits good at_k at_n at_h at_m at_d =
     sym (stated_as bits (record { coding = k; station = s; below = fits }) good (sym at_k) (sym at_n) (sym at_h) (sym at_m) (sym at_d))
 
 pub coding_below : (bits : List Bool) (n : ℕ) → n ≡ field_at 0 5 bits → n < 32
-coding_below bits n e = rw e (field_below bits 0 5)
+coding_below bits n e = rw e (field_below 0 5 bits)
 
 -- the number of a coding has five bits
 pub data_coding-below : (o : Occupancy) (d : DataConstellation) (r : Rate) → data_coding o d r < 32

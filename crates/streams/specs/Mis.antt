@@ -1,6 +1,6 @@
 -- The mode of a frame by its numbers, and the MIS record of 14 bits that states it.
-use Rattle.std.specs.Prelude.{Bool, cond, ◌||◌, List, ◌++◌, Ok, Err, Result, ◌==◌}
-use Rattle.bits.specs.Bits.{bits_of}
+use Rattle.std.specs.Prelude.{◌≡◌, ◌+◌, Bool, cond, ◌||◌, List, ◌++◌, length, refl, Ok, Err, Result, ◌==◌}
+use Rattle.bits.specs.Bits.{bits_of, field_at}
 use Rattle.modes.specs.declared.mode.Occupancy.{Occupancy}
 use Rattle.modes.specs.declared.mode.TisConstellation.{TisConstellation}
 use Rattle.modes.specs.declared.mode.DataConstellation.{DataConstellation}
@@ -8,12 +8,16 @@ use Rattle.modes.specs.declared.mode.Mis.{Mis}
 use Rattle.modes.specs.declared.unknown.UnknownNumber.{UnknownNumber}
 use Rattle.modes.specs.Modes.{occupancy_number, tis_number, data_number, occupancy_of, tis_of, data_of}
 use Rattle.streams.specs.declared.records.BadRecord.{BadRecord}
-use Rattle.streams.specs.Records.{field_at, record_read, with_check}
+use Rattle.streams.specs.Records.{record_read, with_check}
 
 -- the record's first six bits: occupancy 2 bits, TIS constellation 1, data constellation 2, fill 1
 unfoldable pub mis_fields : Mis → List Bool
 mis_fields m =
     bits_of 2 (occupancy_number m.occupancy) ++ bits_of 1 (tis_number m.tis) ++ bits_of 2 (data_number m.«data») ++ bits_of 1 0
+
+pub length-mis_fields : (m : Mis) → length (mis_fields m) + 8 ≡ 14
+unfolding mis_fields bits_of
+length-mis_fields m = refl
 
 -- the record: these six bits and their check of eight bits
 abbrev pub mis_record : Mis → List Bool

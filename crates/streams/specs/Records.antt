@@ -4,10 +4,6 @@ use Rattle.bits.specs.Bits.{bits_of, number_of}
 use Rattle.bits.specs.Crc.{crc8_of}
 use Rattle.streams.specs.declared.records.BadRecord.{BadRecord}
 
--- a field of w bits, from a place on
-abbrev pub field_at : ℕ → ℕ → List Bool → ℕ
-field_at place w bits = number_of (take w (drop place bits))
-
 -- the record of fields: these and their check of eight bits
 unfoldable pub with_check : List Bool → List Bool
 with_check fields = fields ++ bits_of 8 (crc8_of fields)

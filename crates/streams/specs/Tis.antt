@@ -1,8 +1,8 @@
 -- The coding of the data stream by its number, and the TIS record of 63 bits that states it and the station.
-use Rattle.std.specs.Prelude.{Bool, cond, List, ◌++◌, Ok, Err, Result, ◌==◌}
+use Rattle.std.specs.Prelude.{◌≡◌, ◌+◌, Bool, cond, List, ◌++◌, length, refl, Err, Result, ◌==◌}
 use Rattle.std.specs.Option.{ok_or}
-use Rattle.bits.specs.Bits.{bits_of}
-use Rattle.streams.specs.Records.{field_at, record_read, with_check}
+use Rattle.bits.specs.Bits.{bits_of, field_at}
+use Rattle.streams.specs.Records.{record_read, with_check}
 use Rattle.streams.specs.declared.records.BadRecord.{BadRecord}
 use Rattle.modes.specs.declared.station.Tis.{Tis}
 use Rattle.modes.specs.Stations.{station_of, tis_made}
@@ -12,6 +12,10 @@ unfoldable pub tis_fields : Tis → List Bool
 tis_fields t =
     bits_of 5 t.coding ++ bits_of 30 t.station.number ++ bits_of 5 t.station.hour ++ bits_of 6 t.station.minute ++
     bits_of 6 t.station.duration ++ bits_of 3 0
+
+pub length-tis_fields : (t : Tis) → length (tis_fields t) + 8 ≡ 63
+unfolding tis_fields bits_of
+length-tis_fields t = refl
 
 -- the record: these 55 bits and their check of eight bits
 abbrev pub tis_record : Tis → List Bool

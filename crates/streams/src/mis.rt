@@ -1,5 +1,5 @@
 // The MIS record: 14 bits, of which the last eight check the first six.
-ghost use Rattle.streams.specs.Mis.{mis_fields, mis_stated};
+ghost use Rattle.streams.specs.Mis.{length-mis_fields, mis_fields, mis_stated};
 ghost use Rattle.std.proofs.Common.{lit≤};
 
 use crate::records::{BadRecord, Record};
@@ -12,6 +12,8 @@ impl Record<14> for Mis {
     ghost stated = { mis_stated };
 
     ghost room = { lit≤ tt };
+
+    ghost sized = { length-mis_fields };
 
     // The numbers, and a fill of zero.
     fn write_fields(self, fields: &mut [bool]) {

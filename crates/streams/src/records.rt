@@ -30,7 +30,6 @@ pub trait Record<const BITS: usize>: Copy {
     fn write_fields(self, fields: &mut [bool])
         requires { length fields.old + 8 ≡ BITS }
         ensures value { fields.new ≡ field_bits self }
-        ensures sized { (other : Self) → length (field_bits other) + 8 ≡ BITS }
         ensures apart { (other : Self) → field_bits other ≡ field_bits self → other ≡ self };
 
     // What the bits before the check state.
@@ -40,12 +39,13 @@ pub trait Record<const BITS: usize>: Copy {
         ensures exactly { ReadsBits field_bits fields.now result };
 
     ghost room: { 8 ≤ BITS };
+
+    ghost sized: { (x : Self) → length (field_bits x) + 8 ≡ BITS };
 }
 
 // The record that states what is given.
 pub fn write_record<R: Record<BITS>, const BITS: usize>(stated: R) -> [bool; BITS]
     ensures value { result ≡ with_check (R.field_bits stated) }
-    ensures sized { (other : R) → length (R.field_bits other) + 8 ≡ BITS }
     ensures apart { (other : R) → R.field_bits other ≡ R.field_bits stated → other ≡ stated }
 {
     let mut record = [false; BITS];

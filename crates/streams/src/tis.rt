@@ -1,5 +1,5 @@
 // The TIS record: 63 bits, of which the last eight check the first 55.
-ghost use Rattle.streams.specs.Tis.{tis_fields, tis_stated};
+ghost use Rattle.streams.specs.Tis.{length-tis_fields, tis_fields, tis_stated};
 ghost use Rattle.std.proofs.Common.{lit≤};
 
 use crate::records::{BadRecord, Record};
@@ -12,6 +12,8 @@ impl Record<63> for Tis {
     ghost stated = { tis_stated };
 
     ghost room = { lit≤ tt };
+
+    ghost sized = { length-tis_fields };
 
     // The numbers, and three reserved bits of zero.
     fn write_fields(self, fields: &mut [bool]) {

@@ -1,26 +1,18 @@
-use Rattle.std.proofs.Common.{◌≡◌, ◌-◌, length, arith}
-use Rattle.std.proofs.lemmas.List.{drop_all}
+use Rattle.std.proofs.Common.{◌∷◌, ◌^◌, ◌/◌, ◌%◌, eqb, ap, refl, add-one, arith, shr-shr}
+use Rattle.std.proofs.lemmas.List.{reverse-append, take_more_set}
 use Rattle.bits.specs.Bits.{bits_of}
-use Rattle.bits.proofs.Bits.{write_more, rest_more}
 use Rattle.bits.proofs.fields.write_number.Goals as goal
 
-pub loop-i-init : goal.loop-i-init
+pub loop-bit-init : goal.loop-bit-init
 unfolding bits_of
-loop-i-init c =
-    let e : length c.args.bits.now - length c.args.bits.now ≡ 0 = omega arith in
-    rw e (drop_all (length c.args.bits.now) c.args.bits.now (omega arith), omega arith)
+loop-bit-init c = (refl, omega arith)
 
-pub loop-i-preserved : goal.loop-i-preserved
-loop-i-preserved c =
-    let bits = c.loop-i.bits in
-    let i = c.loop-i.i in
-    let n = length c.args.bits.now in (
-      write_more bits i n c.args.value c.loop-i.rest (omega arith) (omega arith) (omega arith) c.loop-i.invariant.1 c.loop-i.invariant.0,
-      rest_more bits i n c.args.value c.loop-i.rest (omega arith) (omega arith) (omega arith) c.loop-i.invariant.1,
+pub loop-bit-preserved : goal.loop-bit-preserved
+unfolding bits_of
+loop-bit-preserved c =
+    let i = c.loop-bit.bit-index in
+    let bit = eqb (c.loop-bit.rest % 2) 1 in
+    let front = take_more_set c.loop-bit.bits i bit (omega arith) in (
+      rw (front, reverse-append, add-one, c.loop-bit.invariant.1) (ap (λ l. eqb (c.args.value / 2 ^ i % 2) 1 ∷ l) c.loop-bit.invariant.0),
+      rw c.loop-bit.invariant.1 (shr-shr c.args.value i 1),
     )
-
-pub returns : goal.returns
-returns c =
-    let z : c.loop-i.i ≡ 0 = omega arith in
-    let n : length c.args.bits.now - 0 ≡ length c.args.bits.now = omega arith in
-    rw n at (rw z at c.loop-i.invariant.0)

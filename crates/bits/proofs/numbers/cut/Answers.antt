@@ -1,5 +1,4 @@
-use Rattle.std.proofs.Common.{◌≡◌, ◌+◌, ◌-◌, ◌*◌, ◌^◌, ◌≤◌, length, refl, arith, pow_mono}
-use Rattle.std.proofs.lemmas.List.{append-nil, drop_all}
+use Rattle.std.proofs.Common.{◌≡◌, ◌+◌, ◌-◌, ◌*◌, ◌^◌, ◌≤◌, refl, arith, pow_mono}
 use Rattle.bits.specs.Bits.{cut}
 use Rattle.bits.proofs.Bits.{cut_more, field_below}
 use Rattle.bits.proofs.numbers.cut.Goals as goal
@@ -21,11 +20,4 @@ loop-i-preserved g c =
     let size : w * c.loop-i.i + w - w * c.loop-i.i ≡ w = omega arith in
     let r = rw size at c.read_number.ensures in
     let m = cut_more w c.args.bits.now c.args.numbers.now c.loop-i.numbers c.loop-i.i c.loop-i-test.true c.loop-i.invariant in
-    cc
-
-pub returns : goal.returns
-returns g c =
-    let end : c.loop-i.i ≡ length c.args.numbers.now = omega arith in
-    let none = drop_all c.loop-i.i c.args.numbers.now c.loop-i-test.false in
-    let whole = append-nil (cut g.row.WIDTH c.loop-i.i c.args.bits.now) in
     cc

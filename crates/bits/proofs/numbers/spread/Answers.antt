@@ -1,6 +1,5 @@
-use Rattle.std.proofs.Common.{◌≡◌, ◌+◌, ◌-◌, ◌*◌, ◌≤◌, length, mul-zero, ap, arith}
+use Rattle.std.proofs.Common.{◌≡◌, ◌+◌, ◌-◌, ◌*◌, ◌≤◌, length, mul-zero, arith}
 use Rattle.std.proofs.Math.Nat.{mul-le-mul_left}
-use Rattle.std.proofs.lemmas.List.{append-nil, drop_all, take_all}
 use Rattle.bits.specs.Bits.{spread}
 use Rattle.bits.proofs.Bits.{spread_more}
 use Rattle.bits.proofs.numbers.spread.Goals as goal
@@ -19,11 +18,3 @@ loop-i-preserved g c =
     rw size
     (spread_more w c.args.numbers.now c.args.bits.now c.loop-i.bits c.write_number.new.bits i c.from.result
     c.loop-i-test.true (omega arith) c.loop-i.invariant (rw size at c.write_number.ensures) c.from.ensures)
-
-pub returns : goal.returns
-returns g c =
-    let all = take_all c.loop-i.i c.args.numbers.now c.loop-i-test.false in
-    let last : c.loop-i.i ≡ length c.args.numbers.now = omega arith in
-    let none = drop_all (g.row.WIDTH * c.loop-i.i) c.args.bits.now (omega (arith, ap (λ n. g.row.WIDTH * n) last)) in
-    let whole = append-nil (spread g.row.WIDTH c.args.numbers.now) in
-    cc

@@ -1,39 +1,32 @@
-use Rattle.std.proofs.Common.{◌≡◌, ℕ, ◌+◌, ◌-◌, ◌*◌, ◌^◌, ◌<◌, ◌≤◌, Bool, true, false, cond, ◌∷◌, length, get_or, drop, sym, refl, ap, ◌∙◌, arith, length-drop, rules}
+use Rattle.std.proofs.Common.{◌≡◌, ℕ, ◌+◌, ◌*◌, ◌%◌, ◌^◌, ◌<◌, ◌≤◌, Bool, true, false, cond, List, [], ◌∷◌, length, reverse, refl, ◌∙◌, bit_or, mod-eq_of_lt, arith, rules}
 use mir.Val.{bool_byte}
-use Rattle.std.proofs.lemmas.List.{drop_all, drop_more}
+use Rattle.std.specs.List.{fold}
+use Rattle.std.proofs.iter.runs.Made.{chains}
+use Rattle.std.proofs.lemmas.List.{reverse-append}
+use Rattle.std.proofs.lemmas.List.Sums.{fold_push}
+use Rattle.std.proofs.lemmas.Nat.{or_shifted}
 use Rattle.cells.specs.Qam.{low_first}
 use Rattle.cells.specs.LowFirst.{low_first-below}
 use Rattle.cells.proofs.qam.low_first.Goals as goal
 
-pub loop-i-init : goal.loop-i-init
-loop-i-init c = sym (ap low_first (drop_all (length c.args.bits.now) c.args.bits.now (omega arith)))
-
-small : (c : goal.After-from) → c.loop-i.v < 2 ^ 7
-small c =
-    let bits = c.args.bits.now in
-    let h : length (drop c.loop-i.i bits) ≤ 7 = simp length-drop (omega arith) in
-    rw c.loop-i.invariant (low_first-below 7 (drop c.loop-i.i bits) h)
-
-bit_is : (b : Bool) → (bool_byte b ≡ cond b 1 0) × (bool_byte b ≤ 1)
+bit_is : (b : Bool) → (bool_byte b ≡ cond b 1 0) × (bool_byte b < 2)
 bit_is true = (refl, omega arith)
 bit_is false = (refl, omega arith)
 
-pub overflow_mul-v : goal.overflow_mul-v
-overflow_mul-v c = let h = small c in search rules
+-- one bit below a number of at most seven bits
+one_more : (n : ℕ) (b : Bool) → n < 2 ^ 7 → bit_or (n * 2 ^ 1 % 2 ^ 8) (bool_byte b) ≡ cond b 1 0 + 2 * n
+one_more n b h =
+    let e = or_shifted n 1 (bool_byte b) (bit_is b).1 in
+    let small : n * 2 ^ 1 < 2 ^ 8 = omega arith in
+    rw (mod-eq_of_lt small, e) (omega (arith, bit_is b))
 
-pub overflow_add-v : goal.overflow_add-v
-overflow_add-v c =
-    let h = small c in
-    let b = bit_is (get_or c.args.bits.now (c.loop-i.i - 1) false) in
-    let e = c.from.ensures in
-    search rules
+folded : (bits : List Bool) → length bits ≤ 8 → fold (λ n b. bit_or (n * 2 ^ 1 % 2 ^ 8) (bool_byte b)) 0 (reverse bits) ≡ low_first bits
+folded [] h = refl
+folded (b ∷ bits) h =
+    let small = low_first-below 7 bits (omega arith) in
+    rw (reverse-append (b ∷ []) bits, fold_push, folded bits (omega arith)) (one_more (low_first bits) b small)
 
-pub loop-i-preserved : goal.loop-i-preserved
-loop-i-preserved c =
-    let bits = c.args.bits.now in
-    let i = c.loop-i.i - 1 in
-    let b = get_or bits i false in
-    let e : i + 1 ≡ c.loop-i.i = omega arith in
-    let more : low_first (drop i bits) ≡ cond b 1 0 + 2 * low_first (drop c.loop-i.i bits) =
-    ap low_first (drop_more bits i false (omega arith) ∙ ap (λ (k : ℕ). b ∷ drop k bits) e) in
-    omega (arith, bit_is b)
+pub returns : goal.returns
+returns c =
+    let e : c.fold.result ≡ fold (λ n b. bit_or (n * 2 ^ 1 % 2 ^ 8) (bool_byte b)) 0 (reverse c.args.bits.now) = search (rules, chains) in
+    e ∙ folded c.args.bits.now c.requires

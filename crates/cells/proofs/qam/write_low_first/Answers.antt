@@ -1,5 +1,5 @@
 use Rattle.std.proofs.Common.{◌≡◌, ℕ, suc, ◌+◌, ◌-◌, ◌/◌, ◌%◌, Bool, eqb, List, [], ◌∷◌, ◌++◌, length, take, sym, ap, ◌∙◌, arith}
-use Rattle.std.proofs.lemmas.List.{append_assoc, append-nil, take_all, take_more_set}
+use Rattle.std.proofs.lemmas.List.{append_assoc, take_more_set}
 use Rattle.cells.specs.Qam.{low_bits}
 use Rattle.cells.proofs.qam.write_low_first.Goals as goal
 
@@ -16,11 +16,3 @@ loop-bit-preserved c =
     append_assoc front (eqb (v % 2) 1 ∷ []) back ∙
     ap (λ (k : ℕ). front ++ low_bits k v) (sym e) ∙
     c.loop-bit.invariant
-
-pub returns : goal.returns
-returns c =
-    let i = c.loop-bit.bit-index in
-    let n = length c.args.bits.now in
-    let e : n - i ≡ 0 = omega arith in
-    let t = take_all i c.loop-bit.bits (omega arith) in
-    sym t ∙ sym (append-nil _) ∙ (rw e at c.loop-bit.invariant)

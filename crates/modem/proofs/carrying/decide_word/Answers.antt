@@ -6,4 +6,4 @@ pub returns : goal.returns
 returns g c =
     let n = length c.args.word.now in
     let size : length c.decide_bits.new.bits ≡ length c.args.word.now * 7 = search rules in
-    c.cut_symbols.ensures ∙ cut_taken n _ c.decide_bits.new.bits _ c.decide_bits.ensures.value size
+    c.cut.ensures ∙ cut_taken n _ c.decide_bits.new.bits _ c.decide_bits.ensures.value size

@@ -1,56 +1,36 @@
-use Rattle.std.proofs.Common.{◌≡◌, ◌-◌, ◌≤◌, true, false, length, take, drop, Some, sym, ap, ◌∙◌, ⊎_elim, arith, rules}
-use Rattle.std.proofs.lemmas.Bool.{le-ltb, lt-ltb, or_from, or_left, or_right}
+use Rattle.std.proofs.Common.{◌≡◌, ◌-◌, true, false, length, take, drop, Some, sym, ap, ◌∙◌, arith}
+use Rattle.std.proofs.lemmas.Bool.{or_from, or_left, or_right}
 use Rattle.bits.specs.Bits.{spread}
 use Rattle.bits.proofs.ByteLaws.{below_from}
 use Rattle.packets.specs.Packets.{bad_block, content_of, fields_in, stated, wrong_size}
-use Rattle.packets.proofs.Exact.{bad_none, good_from, good_some, reads_from, size_reads}
+use Rattle.packets.proofs.Exact.{bad_none, good_some, reads_from, size_reads}
 use Rattle.packets.proofs.reading.read_packet.Goals as goal
 
-pub returns-then-block-lt-LEAST_BLOCK : goal.returns-then-block-lt-LEAST_BLOCK
-returns-then-block-lt-LEAST_BLOCK c =
+pub returns-then-wrong_size : goal.returns-then-wrong_size
+returns-then-wrong_size c =
     let block = c.args.block.now in
-    let bad : wrong_size (length c.args.block.now) ≡ true =
-    ⊎_elim (λ h. or_left _ _ (lt-ltb _ _ h)) (λ h. or_right _ _ (lt-ltb _ _ h.1)) c.then-block-lt-LEAST_BLOCK.either in
+    let bad : wrong_size (length c.args.block.now) ≡ true = sym c.if-wrong_size.ensures in
     record { value = sym (bad_none block (or_left _ _ bad)); exactly = size_reads block bad }
 
 pub returns-then-is_bad : goal.returns-then-is_bad
 returns-then-is_bad c =
     let block = c.args.block.now in
-    let told = c.if-is_bad.ensures in
+    let told = c.if-is_bad.ensures.value in
     let bad : bad_block (fields_in (spread 8 c.args.block.now)) c.args.block.now (spread 8 c.args.block.now) ≡ true = cc in
     let none = sym (bad_none block (or_right _ _ bad)) in
     record {
       value = none;
       exactly =
           reads_from block _ (below_from 256 block (λ i _. (c.type_inv.block i).fits))
-          (or_from _ _ (le-ltb _ _ c.if-block-lt-LEAST_BLOCK.false) (le-ltb _ _ c.if-block-gt-MOST_BLOCK.false)) none;
+          (sym c.if-wrong_size.ensures) none;
     }
-
-pub overflow_sub-result : goal.overflow_sub-result
-overflow_sub-result c = let g = good_from _ _ _ (sym c.if-is_bad.ensures) in omega (arith, g.least)
-
-pub slice_bounds-result-count : goal.slice_bounds-result-count
-slice_bounds-result-count c = let g = good_from _ _ _ (sym c.if-is_bad.ensures) in omega (arith, g.least)
-
-pub slice_bounds-result-start : goal.slice_bounds-result-start
-slice_bounds-result-start c =
-    let g = good_from _ _ _ (sym c.if-is_bad.ensures) in
-    let least : 7 ≤ c.of-fields.result.total = g.least in
-    search rules
-
-pub slice_bounds-result-end : goal.slice_bounds-result-end
-slice_bounds-result-end c =
-    let g = good_from _ _ _ (sym c.if-is_bad.ensures) in
-    let within : c.of-fields.result.total ≤ length c.args.block.now = g.within in
-    search rules
 
 pub returns : goal.returns
 returns c =
     let block = c.args.block.now in
     let f = c.of-fields.result in
-    let told = c.if-is_bad.ensures in
-    let right : wrong_size (length c.args.block.now) ≡ false =
-    or_from _ _ (le-ltb _ _ c.if-block-lt-LEAST_BLOCK.false) (le-ltb _ _ c.if-block-gt-MOST_BLOCK.false) in
+    let told = c.if-is_bad.ensures.value in
+    let right : wrong_size (length c.args.block.now) ≡ false = sym c.if-wrong_size.ensures in
     let good : bad_block (fields_in (spread 8 c.args.block.now)) c.args.block.now (spread 8 c.args.block.now) ≡ false = cc in
     let fields : f ≡ fields_in (spread 8 c.args.block.now) = c.of-fields.ensures ∙ ap fields_in c.spread_bytes.ensures in
     let six : f.total - 2 - 4 ≡ f.total - 6 = omega arith in

@@ -11,8 +11,8 @@ pub returns : goal.returns
 unfolding packet_bits
 returns c =
     let entry = c.args.bits.now in
-    let bytes = c.args.«data».now in
-    let content = content_of c.args.header bytes in
+    let bytes = c.args.packet.«data».now in
+    let content = content_of c.args.packet.header bytes in
     let end = 32 + 8 * length bytes in
     let size : length (covered_bits content) ≡ 32 + 8 * length bytes = simp (length-append, length-header_bits, length-spread) (omega arith) in
     let first = put_more [] entry entry c.write_header.new.bits (header_bits content) 0 32 32 refl refl refl c.write_header.ensures in

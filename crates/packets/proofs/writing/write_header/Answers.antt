@@ -10,10 +10,10 @@ pub returns : goal.returns
 unfolding header_bits bits_of
 returns c =
     let entry = c.args.bits.now in
-    let n = length c.args.«data».now + 6 in
-    let h = c.args.header in
+    let n = length c.args.packet.«data».now + 6 in
+    let h = c.args.packet.header in
     let flags = h.toggle ∷ eqb h.id 0 ∷ h.last ∷ [] in
-    let first = field_more [] entry entry c.write_number.new.bits 0 12 n n refl (omega arith) refl c.write_number.ensures refl in
+    let first = field_more [] entry entry c.write_number.new.bits 0 12 n c.total_length.result refl (omega arith) refl c.write_number.ensures c.total_length.ensures.value in
     let second = put_more (bits_of 12 n) entry _ c.copy_from_slice.new.self flags 12 3 15 refl refl first c.copy_from_slice.ensures.after in
     let third =
     field_more (bits_of 12 n ++ flags) entry _ c.write_number-2.new.bits 15 10 h.id c.from.result refl (omega arith) second

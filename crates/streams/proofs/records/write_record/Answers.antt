@@ -1,4 +1,4 @@
-use Rattle.std.proofs.Common.{◌≡◌, ◌+◌, ◌-◌, ◌++◌, Bool, false, List, length, take, drop, replicate, ◌∙◌, arith}
+use Rattle.std.proofs.Common.{◌≡◌, ◌+◌, ◌-◌, ◌++◌, false, length, drop, replicate, arith}
 use Rattle.std.proofs.lemmas.List.{length-append, length-drop, length-replicate}
 use Rattle.streams.proofs.RecordLaws.{check_written}
 use Rattle.streams.proofs.records.write_record.Goals as goal
@@ -10,7 +10,7 @@ returns-clause-value g c =
     let fields = g.R.Record.field_bits c.args.stated in
     let front = c.write_fields.new.fields in
     let tail = drop size (replicate g.row.BITS false) in
-    let sized = c.write_fields.ensures.sized c.args.stated in
+    let sized = g.met.R.Record.sized c.args.stated in
     let long : length fields ≡ size = omega arith in
     let eight : length tail ≡ 8 = simp (length-drop, length-replicate) (omega arith) in
     let all : length (front ++ tail) ≡ size + 8 = simp length-append (rw (c.write_fields.ensures.value, long, eight)) in

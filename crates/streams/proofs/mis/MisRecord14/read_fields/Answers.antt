@@ -1,6 +1,6 @@
 use Rattle.std.proofs.Common.{◌≡◌, Ok, Err, sym, refl, ap, ◌∙◌, arith}
 use Rattle.modes.specs.Modes.{occupancy_of, tis_of, data_of}
-use Rattle.streams.specs.Records.{field_at}
+use Rattle.bits.specs.Bits.{field_at}
 use Rattle.streams.specs.Mis.{mis_stated}
 use Rattle.streams.proofs.MisLaws.{mis_reads, stated_filled, stated_parts}
 use Rattle.streams.proofs.RecordLaws.{error_is}

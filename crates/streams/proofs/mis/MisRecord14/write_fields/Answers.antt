@@ -1,10 +1,10 @@
-use Rattle.std.proofs.Common.{[], ◌++◌, refl, sym, ap, ◌∙◌, arith}
+use Rattle.std.proofs.Common.{[], ◌++◌, refl, ◌∙◌, arith}
 use Rattle.std.proofs.lemmas.List.{append-nil, drop_all}
 use Rattle.bits.specs.Bits.{bits_of}
 use Rattle.modes.specs.Modes.{occupancy_number, tis_number, data_number}
 use Rattle.streams.specs.Mis.{mis_fields, mis_stated}
 use Rattle.bits.proofs.Bits.{field_more}
-use Rattle.streams.proofs.MisLaws.{length-mis_fields, mis_stated_back}
+use Rattle.streams.proofs.MisLaws.{mis_stated_back}
 use Rattle.streams.proofs.RecordLaws.{told_by_fields}
 use Rattle.streams.proofs.mis.MisRecord14.write_fields.Goals as goal
 
@@ -24,6 +24,5 @@ returns c =
     let whole = append-nil (mis_fields m) in
     record {
       value = cc;
-      sized = λ other. omega (arith, length-mis_fields other);
       apart = λ other e. told_by_fields mis_fields mis_stated mis_stated_back other m e;
     }

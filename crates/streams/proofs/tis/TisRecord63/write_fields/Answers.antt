@@ -4,7 +4,7 @@ use Rattle.bits.specs.Bits.{bits_of}
 use Rattle.streams.specs.Tis.{tis_fields, tis_stated}
 use Rattle.bits.proofs.Bits.{field_more}
 use Rattle.streams.proofs.RecordLaws.{told_by_fields}
-use Rattle.streams.proofs.TisLaws.{length-tis_fields, tis_stated_back}
+use Rattle.streams.proofs.TisLaws.{tis_stated_back}
 use Rattle.streams.proofs.tis.TisRecord63.write_fields.Goals as goal
 
 pub returns : goal.returns
@@ -27,6 +27,5 @@ returns c =
     let none = drop_all 55 entry (omega arith) in
     record {
       value = sixth ∙ (ap (λ l. knhmd ++ bits_of 3 0 ++ l) none ∙ append-nil (knhmd ++ bits_of 3 0));
-      sized = λ other. omega (arith, length-tis_fields other);
       apart = λ other e. told_by_fields tis_fields tis_stated tis_stated_back other t e;
     }

@@ -1,7 +1,0 @@
-use Rattle.std.proofs.Common.{refl}
-use Rattle.reed_solomon.specs.Field.{alpha, raised}
-use Rattle.reed_solomon.proofs.field.logarithms.Goals as goal
-
-pub returns : goal.returns
-unfolding alpha raised
-returns c = record { powers = refl; below = refl }

@@ -1,7 +1,0 @@
-use Rattle.std.proofs.Common.{◌≡◌}
-use Rattle.reed_solomon.specs.Words.{value_at}
-use Rattle.reed_solomon.specs.Errors.{StepsBy}
-use Rattle.reed_solomon.proofs.mend.steps_by.Given as goal
-
-abbrev pub invariant-loop-j : goal.invariant-loop-j
-invariant-loop-j l = (l.value.number ≡ value_at l.j l.given) × StepsBy l.j l.given l.place

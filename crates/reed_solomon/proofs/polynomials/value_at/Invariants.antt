@@ -1,6 +1,0 @@
-use Rattle.std.proofs.Common.{◌≡◌, take}
-use Rattle.reed_solomon.specs.Words.{value_at}
-use Rattle.reed_solomon.proofs.polynomials.value_at.Given as goal
-
-abbrev pub invariant-loop-c : goal.invariant-loop-c
-invariant-loop-c l = l.value.number ≡ value_at l.j (take l.c-index l.coefficients)

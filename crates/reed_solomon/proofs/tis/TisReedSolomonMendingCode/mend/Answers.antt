@@ -1,4 +1,0 @@
-use Rattle.reed_solomon.proofs.tis.TisReedSolomonMendingCode.mend.Goals as goal
-
-pub returns : goal.returns
-returns c = rw (c.requires.room, c.roots.ensures.number) at c.mend.ensures
