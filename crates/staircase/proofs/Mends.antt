@@ -2,9 +2,10 @@
 use Rattle.std.proofs.Common.{◌≡◌, ℕ, ◌+◌, ◌*◌, Bool, List, length, take, ℤ, sym, ap, ◌∙◌, add-mul, arith}
 use Rattle.std.proofs.lemmas.List.{length-take-le}
 use Rattle.codes.specs.Symbols.{bit_number, differing}
+use Rattle.codes.specs.SymbolsLemmas.{differing_self}
 use Rattle.codes.specs.Mending.{Within}
 use Rattle.staircase.specs.Staircase.{word_of, IsWord}
-use Rattle.staircase.specs.Near.{below-bits, differing_none, same_from_none}
+use Rattle.staircase.specs.Near.{below-bits, same_from_none}
 use Rattle.staircase.specs.Holding.{message_of_lem}
 
 module _ (lift rows columns : ℕ) (es : List ℤ) (given : List Bool) (size : length given ≡ (columns + rows) * lift) where
@@ -15,7 +16,7 @@ module _ (lift rows columns : ℕ) (es : List ℤ) (given : List Bool) (size : l
       record {
         size = ap length e ∙ length-take-le (columns * lift) given (omega (arith, add-mul columns rows lift));
         below = below-bits message;
-        places = ap (λ (xs : List Bool). differing bit_number xs given) (ap (word_of lift rows columns es) e ∙ sym w) ∙ differing_none given;
+        places = ap (λ (xs : List Bool). differing bit_number xs given) (ap (word_of lift rows columns es) e ∙ sym w) ∙ differing_self bit_number given;
         near = omega arith;
       }
 
