@@ -124,13 +124,6 @@ Passes5 a = code_shaped a.rate a.lift a.rows a.columns (length a.exponents) ≡ 
 abbrev pub Passes6 : Asked → Type 0
 Passes6 a = ExponentsKnown a.lift a.exponents
 
--- the two halves of that
-abbrev pub NoneBelow : Asked → Type 0
-NoneBelow a = (k : ℕ) → k < length a.exponents → negsuc 0 ≤ℤ slice_index_or a.exponents k (pos 0)
-
-abbrev pub NoneAbove : Asked → Type 0
-NoneAbove a = (k : ℕ) → k < length a.exponents → slice_index_or a.exponents k (pos 0) <ℤ pos a.lift
-
 abbrev pub Passes7 : Asked → Type 0
 Passes7 a = block_fits a.constellation a.lift a.columns ≡ true
 

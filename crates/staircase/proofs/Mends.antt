@@ -1,24 +1,12 @@
 -- What a code that only tests its words answers. Assumes nothing.
-use Rattle.std.proofs.Common.{◌≡◌, ℕ, ◌+◌, ◌-◌, ◌*◌, ◌≤◌, Bool, List, ◌++◌, length, take, drop, ℤ, sym, refl, ap, ◌∙◌, add-mul, arith}
-use borrow.Rule.Slice.PartMut.{post_of, put_mid}
-use Rattle.std.proofs.lemmas.List.{append-nil, drop_all, drop_at, length-drop, length-take-le, take_at}
+use Rattle.std.proofs.Common.{◌≡◌, ℕ, ◌+◌, ◌*◌, Bool, List, length, take, ℤ, sym, ap, ◌∙◌, add-mul, arith}
+use Rattle.std.proofs.lemmas.List.{length-take-le}
 use Rattle.codes.specs.Symbols.{bit_number, differing}
+use Rattle.codes.specs.SymbolsLemmas.{differing_self}
 use Rattle.codes.specs.Mending.{Within}
 use Rattle.staircase.specs.Staircase.{word_of, IsWord}
-use Rattle.staircase.specs.Near.{below-bits, differing_none, same_from_none}
+use Rattle.staircase.specs.Near.{below-bits, same_from_none}
 use Rattle.staircase.specs.Holding.{message_of_lem}
-
--- a message and its checks, written into the two parts of a list
-pub two_parts : (message out checks front : List Bool) → front ≡ message → length message ≤ length out
-    → put_mid (length message) (length out - length message) (front ++ post_of 0 (length message - 0) out) checks ≡ message ++ checks
-two_parts message out checks front e h =
-    let k = length message in
-    let rest = drop (k - 0) out in
-    let size = length-drop (k - 0) out in
-    let begin = take_at message rest k refl in
-    let end = drop_at message rest k refl in
-    let none = drop_all (length out - k) rest (omega arith) in
-    rw (e, begin, end, none, append-nil checks)
 
 module _ (lift rows columns : ℕ) (es : List ℤ) (given : List Bool) (size : length given ≡ (columns + rows) * lift) where
   -- a word is within reach of its own message
@@ -28,7 +16,7 @@ module _ (lift rows columns : ℕ) (es : List ℤ) (given : List Bool) (size : l
       record {
         size = ap length e ∙ length-take-le (columns * lift) given (omega (arith, add-mul columns rows lift));
         below = below-bits message;
-        places = ap (λ (xs : List Bool). differing bit_number xs given) (ap (word_of lift rows columns es) e ∙ sym w) ∙ differing_none given;
+        places = ap (λ (xs : List Bool). differing bit_number xs given) (ap (word_of lift rows columns es) e ∙ sym w) ∙ differing_self bit_number given;
         near = omega arith;
       }
 

@@ -9,12 +9,6 @@ below-bits [] = tt
 below-bits (true ∷ bits) = (lit< tt, below-bits bits)
 below-bits (false ∷ bits) = (lit< tt, below-bits bits)
 
-pub differing_none : (xs : List Bool) → differing bit_number xs xs ≡ 0
-unfolding differing
-differing_none [] = refl
-differing_none (true ∷ xs) = let e = differing_none xs in omega arith
-differing_none (false ∷ xs) = let e = differing_none xs in omega arith
-
 pub same_from_none : (xs ys : List Bool) → differing bit_number xs ys ≡ 0 → xs ≡ ys
 unfolding differing
 same_from_none [] [] e = refl

@@ -17,10 +17,6 @@ Filled lift rows columns exponents =
     (length exponents ≡ rows * columns)
     × ((k : ℕ) → k < length exponents → (negsuc 0 ≤ℤ slice_index_or exponents k (pos 0)) × (slice_index_or exponents k (pos 0) <ℤ pos lift))
 
--- what the numbers of a code are
-abbrev pub Valid : (lift rows columns : ℕ) → List ℤ → Type 0
-Valid lift rows columns exponents = Lifted lift × Shaped rows columns × Filled lift rows columns exponents
-
 -- the sum of two bits, modulo 2
 infixl 65 ◌⊕◌
 abbrev pub ◌⊕◌ : Bool → Bool → Bool

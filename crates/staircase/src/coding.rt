@@ -45,10 +45,9 @@ impl SendingCode for Staircase {
     }
 
     fn encode(&self, message: &[bool], out: &mut [bool]) {
-        let size = message.len();
-        let end = out.len();
-        out[0..size].copy_from_slice(message);
-        self.write_checks(message, &mut out[size..end]);
+        let (front, checks) = out.split_at_mut(message.len());
+        front.copy_from_slice(message);
+        self.write_checks(message, checks);
     }
 }
 
@@ -61,7 +60,7 @@ impl MendingCode for Staircase {
         if !self.checks_hold(given) {
             return Err(BeyondReach);
         }
-        message.copy_from_slice(&given[0..self.shape.message_length()]);
+        message.copy_from_slice(&given[..self.shape.message_length()]);
         Ok(0)
     }
 }

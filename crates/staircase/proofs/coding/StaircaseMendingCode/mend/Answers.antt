@@ -1,4 +1,4 @@
-use Rattle.std.proofs.Common.{◌≡◌, ◌-◌, ◌*◌, take, vec_items, refl, arith}
+use Rattle.std.proofs.Common.{◌≡◌, ◌*◌, take, vec_items, refl}
 use Rattle.std.proofs.lemmas.Bool.{both_ways}
 use Rattle.staircase.proofs.Mends.{within_from_word, word_from_within}
 use Rattle.staircase.proofs.coding.StaircaseMendingCode.mend.Goals as goal
@@ -16,6 +16,5 @@ pub returns : goal.returns
 returns c =
     let code = c.args.self.now in
     let word = c.checks_hold.ensures.words.0 (c.checks_hold.ensures.checks.0 c.if-not-checks_hold.false) in
-    let whole : c.message_length.result - 0 ≡ code.shape.columns * code.shape.lift = omega arith in
-    let front : c.copy_from_slice.new.self ≡ take (code.shape.columns * code.shape.lift) c.args.given.now = rw whole at c.copy_from_slice.ensures.after in
+    let front : c.copy_from_slice.new.self ≡ take (code.shape.columns * code.shape.lift) c.args.given.now = rw c.message_length.ensures at c.copy_from_slice.ensures.after in
     within_from_word code.shape.lift code.shape.rows code.shape.columns (vec_items code.exponents) c.args.given.now c.requires.size c.copy_from_slice.new.self front word
