@@ -10,7 +10,7 @@ use crate::constellation::Constellation;
 const MOST_BITS: usize = 6;
 
 // A constellation at one of its orders.
-#[derive(Drop)]
+#[derive_where(Clone, Copy)]
 pub struct Modulation<'a, Q> {
     pub points: &'a Q,
     pub order: Order,
