@@ -45,11 +45,6 @@ all_true = list_all (λ b. b)
 abbrev pub any_true : List Bool → Bool
 any_true = list_any (λ b. b)
 
--- how many pieces the message has, once the last one is known, else 0
-abbrev pub known : Option ℕ → ℕ
-known None = 0
-known (Some l) = l + 1
-
 -- the last piece is known and none is missing
 abbrev pub none_missing : List Bool → Option ℕ → Bool
 none_missing there None = false
