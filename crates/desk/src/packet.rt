@@ -25,13 +25,13 @@ fn block_of(heap: Global, words: &[&str]) -> Result<Vec<u8>, Trouble> {
     Ok(block)
 }
 
-pub fn run_packet(rt: &HostRuntime, words: &[&str]) -> Result<(), Stop> {
-    let block = block_of(rt.alloc(), words)?;
-    println!(rt; "packet: {}", hex::encode(rt.alloc(), block)?)?;
+pub fn run_packet(rt: &impl Print, heap: Global, words: &[&str]) -> Result<(), Stop> {
+    let block = block_of(heap, words)?;
+    println!(rt; "packet: {}", hex::encode(heap, block)?)?;
     Ok(())
 }
 
-fn print_content(rt: &HostRuntime, packet: Packet) -> io::Result<()> {
+fn print_content(rt: &impl Print, heap: Global, packet: Packet) -> io::Result<()> {
     let Header { toggle, last, id } = packet.header;
     println!(rt;
         "block: length {} toggle {} first {} last {} id {id} data {}",
@@ -39,7 +39,7 @@ fn print_content(rt: &HostRuntime, packet: Packet) -> io::Result<()> {
         u8::from(toggle),
         u8::from(id == 0),
         u8::from(last),
-        hex::encode(rt.alloc(), packet.data)?
+        hex::encode(heap, packet.data)?
     )
 }
 
@@ -53,10 +53,10 @@ fn block_bytes(heap: Global, words: &[&str]) -> Result<Vec<u8>, Trouble> {
     Ok(block)
 }
 
-pub fn run_block(rt: &HostRuntime, words: &[&str]) -> Result<(), Stop> {
-    let block = block_bytes(rt.alloc(), words)?;
+pub fn run_block(rt: &impl Print, heap: Global, words: &[&str]) -> Result<(), Stop> {
+    let block = block_bytes(heap, words)?;
     match read_packet(&block) {
-        Ok(packet) => print_content(rt, packet)?,
+        Ok(packet) => print_content(rt, heap, packet)?,
         Err(_) => println!(rt; "block: refused {}", Refusal::BadPacket.number())?,
     }
     Ok(())

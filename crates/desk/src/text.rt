@@ -56,8 +56,7 @@ pub struct Steps<'a> {
 
 impl Steps<'_> {
     // Prints each step, a line with the stream's name.
-    pub fn print(&self, rt: &HostRuntime, name: &str) -> io::Result<()> {
-        let heap = rt.alloc();
+    pub fn print(&self, rt: &impl Print, heap: Global, name: &str) -> io::Result<()> {
         println!(rt; "{name}: record {}", bits_text(heap, self.record)?)?;
         println!(rt; "{name}: scrambled {}", bits_text(heap, self.scrambled)?)?;
         println!(rt; "{name}: message{}", numbers_text(heap, self.message)?)?;

@@ -6,7 +6,7 @@ use std::io;
 
 // Prints what a stream was read as, by what `shown` makes of it, or the refusal's number.
 pub fn print_answer<T, D: Display + Drop, F: FnOnce(T) -> D>(
-    rt: &HostRuntime,
+    rt: &impl Print,
     name: &str,
     answer: Result<Reading<T>, Refusal>,
     shown: F,

@@ -13,6 +13,7 @@ const MOST_TIMES: u32 = 1_000_000;
 // What the commands hold from line to line.
 #[derive(Drop)]
 pub struct Desk {
+    pub heap: Global,
     line_up: LineUp,
     plan: Vec<u8>,
     exponents: Vec<i16>,
@@ -21,6 +22,7 @@ pub struct Desk {
 impl Desk {
     pub fn new(heap: Global) -> Result<Self, AllocError> {
         Ok(Desk {
+            heap,
             line_up: LineUp::new(heap)?,
             plan: Vec::new(heap),
             exponents: Vec::new(heap),
@@ -56,45 +58,43 @@ fn draft<T: Copy, F: Fn(&str) -> Result<T, Trouble>>(
     Ok(values)
 }
 
-pub fn run_plan(rt: &HostRuntime, desk: &mut Desk, words: &[&str]) -> Result<(), Stop> {
-    desk.plan = draft(rt.alloc(), words, |value| Ok(natural(value, 255)? as u8))?;
+pub fn run_plan(rt: &impl Print, desk: &mut Desk, words: &[&str]) -> Result<(), Stop> {
+    desk.plan = draft(desk.heap, words, |value| Ok(natural(value, 255)? as u8))?;
     println!(rt; "plan: {} bytes", desk.plan.len())?;
     Ok(())
 }
 
-pub fn run_exponents(rt: &HostRuntime, desk: &mut Desk, words: &[&str]) -> Result<(), Stop> {
-    desk.exponents = draft(rt.alloc(), words, |value| number::<i16>(value))?;
+pub fn run_exponents(rt: &impl Print, desk: &mut Desk, words: &[&str]) -> Result<(), Stop> {
+    desk.exponents = draft(desk.heap, words, number)?;
     println!(rt; "exponents: {}", desk.exponents.len())?;
     Ok(())
 }
 
-// Fills the line-up from the words and the drafts.
-fn fill(desk: &mut Desk, words: &[&str]) -> Result<Result<(), Refusal>, Trouble> {
+fn print_filled(rt: &impl Print, answer: Result<(), Refusal>) -> io::Result<()> {
+    match answer {
+        Ok(()) => println!(rt; "fill: done"),
+        Err(refusal @ (Refusal::PlanByte(place) | Refusal::ExponentOutOfRange(place))) => {
+            println!(rt; "fill: refused {} place {place}", refusal.number())
+        }
+        Err(refusal) => println!(rt; "fill: refused {}", refusal.number()),
+    }
+}
+
+pub fn run_fill(rt: &impl Print, desk: &mut Desk, words: &[&str]) -> Result<(), Stop> {
     let [o, t, d, r, l, m, k] = exactly::<_, 7>(words)?;
     let (occupancy, tis, data, rate) = (number(o)?, number(t)?, number(d)?, number(r)?);
     let (lift, rows, columns) = (number(l)?, number(m)?, number(k)?);
-    Ok(
-        desk.line_up.fill(
-            occupancy,
-            tis,
-            data,
-            rate,
-            &desk.plan,
-            lift,
-            rows,
-            columns,
-            &desk.exponents,
-        ),
-    )
-}
-
-pub fn run_fill(rt: &HostRuntime, desk: &mut Desk, words: &[&str]) -> Result<(), Stop> {
-    match fill(desk, words)? {
-        Ok(()) => println!(rt; "fill: done")?,
-        Err(refusal @ (Refusal::PlanByte(place) | Refusal::ExponentOutOfRange(place))) => {
-            println!(rt; "fill: refused {} place {place}", refusal.number())?
-        }
-        Err(refusal) => println!(rt; "fill: refused {}", refusal.number())?,
-    }
+    let answer = desk.line_up.fill(
+        occupancy,
+        tis,
+        data,
+        rate,
+        &desk.plan,
+        lift,
+        rows,
+        columns,
+        &desk.exponents,
+    );
+    print_filled(rt, answer)?;
     Ok(())
 }

@@ -8,6 +8,7 @@ use desk::trouble::{Stop, Trouble};
 use modem::{StreamFault, read_mis, write_mis};
 use modes::{DataConstellation, Mis, Occupancy, TisConstellation};
 use reed_solomon::mis::MisReedSolomon;
+use std::alloc::Global;
 use std::fmt;
 
 // The mode numbers of a MIS, as they are printed.
@@ -40,7 +41,7 @@ fn mode(o: &str, t: &str, d: &str) -> Result<Mis, Trouble> {
 }
 
 // Runs the command's words, and prints nothing where one of them is wrong.
-pub fn run_mis(rt: &HostRuntime, words: &[&str]) -> Result<(), Stop> {
+pub fn run_mis(rt: &impl Print, heap: Global, words: &[&str]) -> Result<(), Stop> {
     let [o, t, d, settings @ ..] = words else {
         return Err(Trouble::TooFew.into());
     };
@@ -54,7 +55,7 @@ pub fn run_mis(rt: &HostRuntime, words: &[&str]) -> Result<(), Stop> {
         word: &trace.word,
         cells: &trace.cells,
     };
-    steps.print(rt, "mis")?;
+    steps.print(rt, heap, "mis")?;
     let answer = read_mis(&MisReedSolomon, &Qam, &cells).map_err(StreamFault::of_mis);
     print_answer(rt, "mis", answer, ModeNumbers)?;
     Ok(())

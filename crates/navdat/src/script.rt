@@ -15,32 +15,32 @@ fn words(heap: Global, line: &str) -> Result<Vec<&str>, AllocError> {
 }
 
 // Runs the words of a line.
-fn run_words(rt: &HostRuntime, desk: &mut Desk, words: &[&str]) -> Result<(), Stop> {
+fn run_words(rt: &impl Print, desk: &mut Desk, words: &[&str]) -> Result<(), Stop> {
     match words {
         [] => Ok(()),
         ["plan", rest @ ..] => run_plan(rt, desk, rest),
         ["exponents", rest @ ..] => run_exponents(rt, desk, rest),
         ["fill", rest @ ..] => run_fill(rt, desk, rest),
-        ["mis", rest @ ..] => run_mis(rt, rest),
-        ["tis", rest @ ..] => run_tis(rt, rest),
-        ["packet", rest @ ..] => run_packet(rt, rest),
-        ["block", rest @ ..] => run_block(rt, rest),
+        ["mis", rest @ ..] => run_mis(rt, desk.heap, rest),
+        ["tis", rest @ ..] => run_tis(rt, desk.heap, rest),
+        ["packet", rest @ ..] => run_packet(rt, desk.heap, rest),
+        ["block", rest @ ..] => run_block(rt, desk.heap, rest),
         _ => Err(Trouble::NoCommand.into()),
     }
 }
 
 // Runs the text of a line; a `#` in front makes it a remark.
-fn run_text(rt: &HostRuntime, desk: &mut Desk, line: &[u8]) -> Result<(), Stop> {
+fn run_text(rt: &impl Print, desk: &mut Desk, line: &[u8]) -> Result<(), Stop> {
     let text = std::str::from_utf8(line).map_err(Trouble::from)?;
     if text.starts_with('#') {
         return Ok(());
     }
-    let all = words(rt.alloc(), text.strip_suffix('\r').unwrap_or(text))?;
+    let all = words(desk.heap, text.strip_suffix('\r').unwrap_or(text))?;
     run_words(rt, desk, &all)
 }
 
 // Runs one line, and prints what it does or what is wrong with it.
-pub fn run_line(rt: &HostRuntime, desk: &mut Desk, line: &[u8]) -> io::Result<()> {
+pub fn run_line(rt: &impl Print, desk: &mut Desk, line: &[u8]) -> io::Result<()> {
     match run_text(rt, desk, line) {
         Err(Stop::Line(why)) => println!(rt; "error: {why}"),
         Err(Stop::Output(error)) => Err(error),

@@ -11,6 +11,7 @@ use desk::trouble::{Stop, Trouble};
 use modem::{StreamFault, read_tis, write_tis};
 use modes::{DataConstellation, Occupancy, Rate, Station, Tis, TisConstellation, data_coding};
 use reed_solomon::tis::TisReedSolomon;
+use std::alloc::Global;
 use std::fmt;
 
 // The coding and the station of a TIS, as they are printed.
@@ -49,23 +50,12 @@ fn coding(o: &str, d: &str, r: &str) -> Result<u8, Trouble> {
     Ok(data_coding(occupancy, data, rate))
 }
 
-fn station(
-    number_word: &str,
-    hour: &str,
-    minute: &str,
-    duration: &str,
-) -> Result<Station, Trouble> {
-    Station::new(
-        number(number_word)?,
-        number(hour)?,
-        number(minute)?,
-        number(duration)?,
-    )
-    .ok_or(Trouble::OutOfRange)
+fn station(s: &str, h: &str, m: &str, u: &str) -> Result<Station, Trouble> {
+    Station::new(number(s)?, number(h)?, number(m)?, number(u)?).ok_or(Trouble::OutOfRange)
 }
 
 // Runs the command's words, and prints nothing where one of them is wrong.
-pub fn run_tis(rt: &HostRuntime, words: &[&str]) -> Result<(), Stop> {
+pub fn run_tis(rt: &impl Print, heap: Global, words: &[&str]) -> Result<(), Stop> {
     let [o, d, r, s, h, m, u, q, settings @ ..] = words else {
         return Err(Trouble::TooFew.into());
     };
@@ -83,7 +73,7 @@ pub fn run_tis(rt: &HostRuntime, words: &[&str]) -> Result<(), Stop> {
         word: &trace.word,
         cells: &trace.cells[..count],
     };
-    steps.print(rt, "tis")?;
+    steps.print(rt, heap, "tis")?;
     let answer = read_tis(&TisReedSolomon, &Qam, constellation, &cells).map_err(
         StreamFault::of_tis,
     );
