@@ -1,9 +1,9 @@
-// What the commands of a script share: numbers, bytes and cells, read and printed.
+// What the commands of a script share: words, numbers, bytes and cells, read and printed.
 #![tactic(auto)]
 
-pub mod hex;
 pub mod numbers;
 pub mod packet;
 pub mod settings;
 pub mod text;
 pub mod trouble;
+pub mod words;

@@ -1,58 +1,67 @@
 // What the program prints of bits and numbers.
+ghost use Rattle.std.specs.Prelude.{◌≡◌, [], ◌∷◌, All, IfOk, IsSome, encode_utf8_all, map, unwrap_or};
+ghost use Rattle.std.specs.List.{flat_map};
+ghost use Rattle.std.specs.String.{string_bytes};
+ghost use Rattle.desk.specs.Texts.{bit_digit, numbers_of};
+
 use cells::Cell;
 use std::alloc::{AllocError, Global};
 use std::fmt::Display;
 use std::io;
 
 // Bits as one word, in sending order.
-pub fn bits_text(heap: Global, bits: &[bool]) -> Result<String, AllocError> {
-    let mut text = String::new(heap);
-    for bit in bits {
-        text.push(if *bit { '1' } else { '0' })?;
-    }
-    Ok(text)
+pub fn bits_text(heap: Global, bits: &[bool]) -> Result<String, AllocError>
+    ensures { IfOk result (λ text. string_bytes text ≡ encode_utf8_all (map bit_digit bits.now)) }
+{
+    bits.iter()
+        .map(|bit| if *bit { '1' } else { '0' })
+        .collect(heap)
 }
 
 // Numbers, a space before each.
-pub fn numbers_text<T: Display>(heap: Global, numbers: &[T]) -> Result<String, AllocError> {
+pub fn numbers_text<T: Display>(heap: Global, numbers: &[T]) -> Result<String, AllocError>
+    ensures { IfOk result (λ text. All (λ n. IsSome (T.output n)) numbers.now →
+        string_bytes text ≡ flat_map (λ n. 32 ∷ unwrap_or (T.output n) []) numbers.now) }
+{
     let mut text = String::new(heap);
     for n in numbers {
-        let word = format!(in heap; " {n}")?;
-        text.push_str(word.as_str())?;
+        write!(text, " {n}")?;
     }
     Ok(text)
 }
 
-// The numbers of cells, two a cell.
-pub fn cell_numbers(heap: Global, cells: &[Cell]) -> Result<Vec<i16>, AllocError> {
-    let mut numbers = Vec::new(heap);
-    for cell in cells {
-        numbers.push(cell.real)?;
-        numbers.push(cell.imaginary)?;
-    }
-    Ok(numbers)
+// The two numbers of a cell.
+fn numbers_of(cell: &Cell) -> [i16; 2]
+    ensures { result ≡ numbers_of cell.now }
+{
+    [cell.real, cell.imaginary]
 }
 
-// Prints every step of sending a stream.
-pub fn print_steps(
-    rt: &HostRuntime,
-    name: &str,
-    record: &[bool],
-    scrambled: &[bool],
-    message: &[u8],
-    word: &[u8],
-    cells: &[Cell],
-) -> io::Result<()> {
-    let heap = rt.alloc();
-    let record = bits_text(heap, record)?;
-    println!(rt; "{name}: record {record}")?;
-    let scrambled = bits_text(heap, scrambled)?;
-    println!(rt; "{name}: scrambled {scrambled}")?;
-    let message = numbers_text(heap, message)?;
-    println!(rt; "{name}: message{message}")?;
-    let word = numbers_text(heap, word)?;
-    println!(rt; "{name}: word{word}")?;
-    let numbers = cell_numbers(heap, cells)?;
-    let cells = numbers_text(heap, numbers.as_slice())?;
-    println!(rt; "{name}: cells{cells}")
+// The numbers of cells, two a cell.
+pub fn cell_numbers(heap: Global, cells: &[Cell]) -> Result<Vec<i16>, AllocError>
+    ensures { IfOk result (λ numbers. numbers.items ≡ flat_map numbers_of cells.now) }
+{
+    cells.iter().flat_map(numbers_of).collect(heap)
+}
+
+// A stream at every step of sending.
+#[derive(Clone, Copy, Debug)]
+pub struct Steps<'a> {
+    pub record: &'a [bool],
+    pub scrambled: &'a [bool],
+    pub message: &'a [u8],
+    pub word: &'a [u8],
+    pub cells: &'a [Cell],
+}
+
+impl Steps<'_> {
+    // Prints each step, a line with the stream's name.
+    pub fn print(&self, rt: &impl Print, heap: Global, name: &str) -> io::Result<()> {
+        println!(rt; "{name}: record {}", bits_text(heap, self.record)?)?;
+        println!(rt; "{name}: scrambled {}", bits_text(heap, self.scrambled)?)?;
+        println!(rt; "{name}: message{}", numbers_text(heap, self.message)?)?;
+        println!(rt; "{name}: word{}", numbers_text(heap, self.word)?)?;
+        let numbers = cell_numbers(heap, self.cells)?;
+        println!(rt; "{name}: cells{}", numbers_text(heap, &numbers)?)
+    }
 }

@@ -1,32 +1,93 @@
-// What is wrong with a line of a script.
-use std::fmt;
+// What is wrong with a line of a script, and what ends a command.
+ghost use Rattle.std.specs.Prelude.{◌≡◌};
+ghost use Rattle.desk.specs.Troubles.{hex_trouble};
+ghost use Rattle.desk.specs.declared.trouble.Trouble.TheVariants.{NoMemory, NoNumber, NoText};
+
+use hex::FromHexError;
+use std::alloc::{AllocError, AllocFailed};
+use std::io;
+use std::num::ParseIntError;
+use std::str::Utf8Error;
+use thiserror::Error;
 
 // Why a line is no command.
-#[derive(Clone, Copy, Debug)]
+#[derive(Clone, Copy, Debug, PartialEq, Eq, Error)]
 pub enum Trouble {
+    #[error("the line is not text")]
     NoText,
+    #[error("there is no such command")]
     NoCommand,
+    #[error("a word is not a number of the kind asked for")]
     NoNumber,
+    #[error("a number is out of range")]
     OutOfRange,
+    #[error("there are too few words")]
     TooFew,
+    #[error("there are too many words")]
     TooMany,
+    #[error("there is no number of that place")]
     NotThere,
+    #[error("the packet does not fit its block")]
     NoRoom,
+    #[error("there is no memory")]
     NoMemory,
 }
 
-impl fmt::Display for Trouble {
-    fn fmt<W: fmt::Write>(&self, f: &mut fmt::Formatter<W>) -> fmt::Result {
-        match self {
-            Trouble::NoText => write!(f, "the line is not text"),
-            Trouble::NoCommand => write!(f, "there is no such command"),
-            Trouble::NoNumber => write!(f, "a word is not a number of the kind asked for"),
-            Trouble::OutOfRange => write!(f, "a number is out of range"),
-            Trouble::TooFew => write!(f, "there are too few words"),
-            Trouble::TooMany => write!(f, "there are too many words"),
-            Trouble::NoRoom => write!(f, "the packet does not fit its block"),
-            Trouble::NoMemory => write!(f, "there is no memory"),
-            Trouble::NotThere => write!(f, "there is no number of that place"),
+impl From<Utf8Error> for Trouble {
+    ghost from_gives = { λ _ why. why ≡ NoText };
+
+    fn from(_: Utf8Error) -> Trouble {
+        Trouble::NoText
+    }
+}
+
+impl From<ParseIntError> for Trouble {
+    ghost from_gives = { λ _ why. why ≡ NoNumber };
+
+    fn from(_: ParseIntError) -> Trouble {
+        Trouble::NoNumber
+    }
+}
+
+impl From<FromHexError> for Trouble {
+    ghost from_gives = { λ error why. why ≡ hex_trouble error };
+
+    fn from(error: FromHexError) -> Trouble {
+        match error {
+            FromHexError::OutOfMemory => Trouble::NoMemory,
+            _ => Trouble::NoNumber,
         }
+    }
+}
+
+impl From<AllocError> for Trouble {
+    ghost from_gives = { λ _ why. why ≡ NoMemory };
+
+    fn from(_: AllocError) -> Trouble {
+        Trouble::NoMemory
+    }
+}
+
+impl<T: Drop> From<AllocFailed<T>> for Trouble {
+    ghost from_gives = { λ _ why. why ≡ NoMemory };
+
+    fn from(_: AllocFailed<T>) -> Trouble {
+        Trouble::NoMemory
+    }
+}
+
+// What ends a command before it is done: its line is wrong, or the program cannot print.
+#[derive(Debug, Drop, Error)]
+pub enum Stop {
+    #[error(transparent)]
+    Line(#[from] Trouble),
+    #[error(transparent)]
+    Output(#[from] io::Error),
+}
+
+// The memory that printing takes.
+impl From<AllocError> for Stop {
+    fn from(error: AllocError) -> Stop {
+        Stop::Output(error.into())
     }
 }

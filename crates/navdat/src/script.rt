@@ -3,53 +3,47 @@ use crate::drafts::{Desk, run_exponents, run_fill, run_plan};
 use crate::mis::run_mis;
 use crate::tis::run_tis;
 use desk::packet::{run_block, run_packet};
-use desk::trouble::Trouble;
+use desk::trouble::{Stop, Trouble};
 use std::alloc::{AllocError, Global};
 use std::io;
 
 // The words of a line, which one or more spaces part.
 fn words(heap: Global, line: &str) -> Result<Vec<&str>, AllocError> {
-    let mut all = Vec::new(heap);
-    for word in line.split(' ') {
-        if !word.is_empty() {
-            all.push(word)?;
-        }
-    }
-    Ok(all)
-}
-
-fn print_trouble(rt: &HostRuntime, why: Trouble) -> io::Result<()> {
-    println!(rt; "error: {why}")
+    line.split(' ')
+        .filter(|word| !word.is_empty())
+        .collect(heap)
 }
 
 // Runs the words of a line.
-fn run_words(rt: &HostRuntime, desk: &mut Desk, words: &[&str]) -> io::Result<()> {
-    let done = match words {
+fn run_words(rt: &impl Print, desk: &mut Desk, words: &[&str]) -> Result<(), Stop> {
+    match words {
         [] => Ok(()),
-        ["plan", rest @ ..] => run_plan(rt, desk, rest)?,
-        ["exponents", rest @ ..] => run_exponents(rt, desk, rest)?,
-        ["fill", rest @ ..] => run_fill(rt, desk, rest)?,
-        ["mis", rest @ ..] => run_mis(rt, rest)?,
-        ["tis", rest @ ..] => run_tis(rt, rest)?,
-        ["packet", rest @ ..] => run_packet(rt, rest)?,
-        ["block", rest @ ..] => run_block(rt, rest)?,
-        _ => Err(Trouble::NoCommand),
-    };
-    match done {
-        Ok(()) => Ok(()),
-        Err(why) => print_trouble(rt, why),
+        ["plan", rest @ ..] => run_plan(rt, desk, rest),
+        ["exponents", rest @ ..] => run_exponents(rt, desk, rest),
+        ["fill", rest @ ..] => run_fill(rt, desk, rest),
+        ["mis", rest @ ..] => run_mis(rt, desk.heap, rest),
+        ["tis", rest @ ..] => run_tis(rt, desk.heap, rest),
+        ["packet", rest @ ..] => run_packet(rt, desk.heap, rest),
+        ["block", rest @ ..] => run_block(rt, desk.heap, rest),
+        _ => Err(Trouble::NoCommand.into()),
     }
 }
 
-// Runs one line, and prints what it does.
-pub fn run_line(rt: &HostRuntime, desk: &mut Desk, line: &[u8]) -> io::Result<()> {
-    let Ok(text) = std::str::from_utf8(line) else {
-        return print_trouble(rt, Trouble::NoText);
-    };
+// Runs the text of a line; a `#` in front makes it a remark.
+fn run_text(rt: &impl Print, desk: &mut Desk, line: &[u8]) -> Result<(), Stop> {
+    let text = std::str::from_utf8(line).map_err(Trouble::from)?;
     if text.starts_with('#') {
         return Ok(());
     }
-    let text = text.strip_suffix('\n').unwrap_or(text);
-    let all = words(rt.alloc(), text.strip_suffix('\r').unwrap_or(text))?;
-    run_words(rt, desk, all.as_slice())
+    let all = words(desk.heap, text.strip_suffix('\r').unwrap_or(text))?;
+    run_words(rt, desk, &all)
+}
+
+// Runs one line, and prints what it does or what is wrong with it.
+pub fn run_line(rt: &impl Print, desk: &mut Desk, line: &[u8]) -> io::Result<()> {
+    match run_text(rt, desk, line) {
+        Err(Stop::Line(why)) => println!(rt; "error: {why}"),
+        Err(Stop::Output(error)) => Err(error),
+        Ok(()) => Ok(()),
+    }
 }

@@ -1,0 +1,20 @@
+// What reading a stream's cells gives, as it is printed.
+use modem::Reading;
+use refusals::Refusal;
+use std::fmt::Display;
+use std::io;
+
+// Prints what a stream was read as, by what `shown` makes of it, or the refusal's number.
+pub fn print_answer<T, D: Display + Drop, F: FnOnce(T) -> D>(
+    rt: &impl Print,
+    name: &str,
+    answer: Result<Reading<T>, Refusal>,
+    shown: F,
+) -> io::Result<()>
+    requires { F.IsAlwaysCallable shown }
+{
+    match answer {
+        Ok(got) => println!(rt; "{name}: reads {} mended {}", shown(got.stated), got.mended),
+        Err(refusal) => println!(rt; "{name}: refused {}", refusal.number()),
+    }
+}
