@@ -21,7 +21,7 @@ fn block_of(heap: Global, words: &[&str]) -> Result<Vec<u8>, Trouble> {
     let size = natural(size, MOST_BLOCK)? as usize;
     let data = hex::decode(heap, data)?;
     let mut block = vec![in heap; 0u8; size]?;
-    write_packet(header, &data, &mut block).map_err(|_| Trouble::NoRoom)?;
+    write_packet(Packet { header, data: &data }, &mut block).map_err(|_| Trouble::NoRoom)?;
     Ok(block)
 }
 
@@ -57,7 +57,7 @@ pub fn run_block(rt: &impl Print, heap: Global, words: &[&str]) -> Result<(), St
     let block = block_bytes(heap, words)?;
     match read_packet(&block) {
         Ok(packet) => print_content(rt, heap, packet)?,
-        Err(_) => println!(rt; "block: refused {}", Refusal::BadPacket.number())?,
+        Err(_) => println!(rt; "block: refused {}", u8::from(Refusal::BadPacket))?,
     }
     Ok(())
 }

@@ -1,9 +1,10 @@
 // What is wrong with a line of a script, and what ends a command.
 ghost use Rattle.std.specs.Prelude.{◌≡◌};
 ghost use Rattle.desk.specs.Troubles.{hex_trouble};
-ghost use Rattle.desk.specs.declared.trouble.Trouble.TheVariants.{NoMemory, NoNumber, NoText};
+ghost use Rattle.desk.specs.declared.trouble.Trouble.TheVariants.{NoMemory, NoNumber, NoText, OutOfRange};
 
 use hex::FromHexError;
+use modes::UnknownNumber;
 use std::alloc::{AllocError, AllocFailed};
 use std::io;
 use std::num::ParseIntError;
@@ -46,6 +47,14 @@ impl From<ParseIntError> for Trouble {
 
     fn from(_: ParseIntError) -> Trouble {
         Trouble::NoNumber
+    }
+}
+
+impl From<UnknownNumber> for Trouble {
+    ghost from_gives = { λ _ why. why ≡ OutOfRange };
+
+    fn from(_: UnknownNumber) -> Trouble {
+        Trouble::OutOfRange
     }
 }
 

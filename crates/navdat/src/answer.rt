@@ -1,5 +1,5 @@
 // What reading a stream's cells gives, as it is printed.
-use modem::Reading;
+use modem::{FrameFault, Reading};
 use refusals::Refusal;
 use std::fmt::Display;
 use std::io;
@@ -8,13 +8,13 @@ use std::io;
 pub fn print_answer<T, D: Display + Drop, F: FnOnce(T) -> D>(
     rt: &impl Print,
     name: &str,
-    answer: Result<Reading<T>, Refusal>,
+    answer: Result<Reading<T>, FrameFault>,
     shown: F,
 ) -> io::Result<()>
     requires { F.IsAlwaysCallable shown }
 {
     match answer {
         Ok(got) => println!(rt; "{name}: reads {} mended {}", shown(got.stated), got.mended),
-        Err(refusal) => println!(rt; "{name}: refused {}", refusal.number()),
+        Err(fault) => println!(rt; "{name}: refused {}", u8::from(Refusal::from(fault))),
     }
 }

@@ -2,6 +2,7 @@
 use desk::numbers::{natural, number};
 use desk::trouble::{Stop, Trouble};
 use desk::words::exactly;
+use lineup::asked::Asked;
 use lineup::line_up::LineUp;
 use refusals::Refusal;
 use std::alloc::{AllocError, Global};
@@ -74,9 +75,9 @@ fn print_filled(rt: &impl Print, answer: Result<(), Refusal>) -> io::Result<()> 
     match answer {
         Ok(()) => println!(rt; "fill: done"),
         Err(refusal @ (Refusal::PlanByte(place) | Refusal::ExponentOutOfRange(place))) => {
-            println!(rt; "fill: refused {} place {place}", refusal.number())
+            println!(rt; "fill: refused {} place {place}", u8::from(refusal))
         }
-        Err(refusal) => println!(rt; "fill: refused {}", refusal.number()),
+        Err(refusal) => println!(rt; "fill: refused {}", u8::from(refusal)),
     }
 }
 
@@ -84,17 +85,17 @@ pub fn run_fill(rt: &impl Print, desk: &mut Desk, words: &[&str]) -> Result<(), 
     let [o, t, d, r, l, m, k] = exactly::<_, 7>(words)?;
     let (occupancy, tis, data, rate) = (number(o)?, number(t)?, number(d)?, number(r)?);
     let (lift, rows, columns) = (number(l)?, number(m)?, number(k)?);
-    let answer = desk.line_up.fill(
+    let answer = desk.line_up.fill(Asked {
         occupancy,
         tis,
         data,
         rate,
-        &desk.plan,
+        plan: &desk.plan,
         lift,
         rows,
         columns,
-        &desk.exponents,
-    );
+        exponents: &desk.exponents,
+    });
     print_filled(rt, answer)?;
     Ok(())
 }

@@ -5,9 +5,9 @@ use desk::numbers::natural;
 use desk::settings::set_numbers;
 use desk::text::Steps;
 use desk::trouble::{Stop, Trouble};
-use modem::{StreamFault, read_mis, write_mis};
+use modem::{FrameFault, read_mis, write_mis};
 use modes::{DataConstellation, Mis, Occupancy, TisConstellation};
-use reed_solomon::mis::MisReedSolomon;
+use reed_solomon::streams::mis as mis_code;
 use std::alloc::Global;
 use std::fmt;
 
@@ -25,18 +25,18 @@ impl fmt::Display for ModeNumbers {
         write!(
             f,
             "{} {} {}",
-            occupancy.number(),
-            tis.number(),
-            data.number()
+            u8::from(occupancy),
+            u8::from(tis),
+            u8::from(data)
         )
     }
 }
 
 fn mode(o: &str, t: &str, d: &str) -> Result<Mis, Trouble> {
     Ok(Mis {
-        occupancy: Occupancy::from_number(natural(o, 3)?).ok_or(Trouble::OutOfRange)?,
-        tis: TisConstellation::from_number(natural(t, 1)?).ok_or(Trouble::OutOfRange)?,
-        data: DataConstellation::from_number(natural(d, 2)?).ok_or(Trouble::OutOfRange)?,
+        occupancy: Occupancy::try_from(natural(o, 3)?)?,
+        tis: TisConstellation::try_from(natural(t, 1)?)?,
+        data: DataConstellation::try_from(natural(d, 2)?)?,
     })
 }
 
@@ -45,7 +45,7 @@ pub fn run_mis(rt: &impl Print, heap: Global, words: &[&str]) -> Result<(), Stop
     let [o, t, d, settings @ ..] = words else {
         return Err(Trouble::TooFew.into());
     };
-    let trace = write_mis(&MisReedSolomon, &Qam, mode(o, t, d)?);
+    let trace = write_mis(&mis_code(), &Qam, mode(o, t, d)?);
     let mut cells = trace.cells;
     set_numbers(settings, &mut cells)?;
     let steps = Steps {
@@ -56,7 +56,7 @@ pub fn run_mis(rt: &impl Print, heap: Global, words: &[&str]) -> Result<(), Stop
         cells: &trace.cells,
     };
     steps.print(rt, heap, "mis")?;
-    let answer = read_mis(&MisReedSolomon, &Qam, &cells).map_err(StreamFault::of_mis);
+    let answer = read_mis(&mis_code(), &Qam, &cells).map_err(FrameFault::Mis);
     print_answer(rt, "mis", answer, ModeNumbers)?;
     Ok(())
 }

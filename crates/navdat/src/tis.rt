@@ -8,9 +8,9 @@ use desk::numbers::{natural, number};
 use desk::settings::set_numbers;
 use desk::text::Steps;
 use desk::trouble::{Stop, Trouble};
-use modem::{StreamFault, read_tis, write_tis};
+use modem::{FrameFault, read_tis, write_tis};
 use modes::{DataConstellation, Occupancy, Rate, Station, Tis, TisConstellation, data_coding};
-use reed_solomon::tis::TisReedSolomon;
+use reed_solomon::streams::tis as tis_code;
 use std::alloc::Global;
 use std::fmt;
 
@@ -44,9 +44,9 @@ fn cell_count(constellation: TisConstellation) -> usize
 }
 
 fn coding(o: &str, d: &str, r: &str) -> Result<u8, Trouble> {
-    let occupancy = Occupancy::from_number(natural(o, 3)?).ok_or(Trouble::OutOfRange)?;
-    let data = DataConstellation::from_number(natural(d, 2)?).ok_or(Trouble::OutOfRange)?;
-    let rate = Rate::from_number(natural(r, 1)?).ok_or(Trouble::OutOfRange)?;
+    let occupancy = Occupancy::try_from(natural(o, 3)?)?;
+    let data = DataConstellation::try_from(natural(d, 2)?)?;
+    let rate = Rate::try_from(natural(r, 1)?)?;
     Ok(data_coding(occupancy, data, rate))
 }
 
@@ -60,9 +60,9 @@ pub fn run_tis(rt: &impl Print, heap: Global, words: &[&str]) -> Result<(), Stop
         return Err(Trouble::TooFew.into());
     };
     let (coding, station) = (coding(o, d, r)?, station(s, h, m, u)?);
-    let constellation = TisConstellation::from_number(natural(q, 1)?).ok_or(Trouble::OutOfRange)?;
+    let constellation = TisConstellation::try_from(natural(q, 1)?)?;
     let tis = Tis::new(coding, station).ok_or(Trouble::OutOfRange)?;
-    let trace = write_tis(&TisReedSolomon, &Qam, constellation, tis);
+    let trace = write_tis(&tis_code(), &Qam, constellation, tis);
     let count = cell_count(constellation);
     let mut cells = trace.cells;
     set_numbers(settings, &mut cells[..count])?;
@@ -74,8 +74,8 @@ pub fn run_tis(rt: &impl Print, heap: Global, words: &[&str]) -> Result<(), Stop
         cells: &trace.cells[..count],
     };
     steps.print(rt, heap, "tis")?;
-    let answer = read_tis(&TisReedSolomon, &Qam, constellation, &cells).map_err(
-        StreamFault::of_tis,
+    let answer = read_tis(&tis_code(), &Qam, constellation, &cells).map_err(
+        FrameFault::Tis,
     );
     print_answer(rt, "tis", answer, StatedTis)?;
     Ok(())
