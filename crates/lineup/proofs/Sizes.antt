@@ -1,10 +1,17 @@
 -- The cells of a frame.
-use Rattle.std.proofs.Common.{◌≡◌, ℕ, ◌≤◌, true, List, length, sym, subst, lit≤}
+use Rattle.std.proofs.Common.{◌≡◌, ℕ, ◌≤◌, true, List, length, refl, sym, subst, lit≤}
 use Rattle.std.proofs.lemmas.Bool.{eqb-true}
-use Rattle.modes.specs.Modes.{occupancy_number}
+use Rattle.modes.specs.Modes.{occupancy_number, tis_count, tis_number}
 use Rattle.modes.specs.declared.mode.Occupancy.{Occupancy}
 use Rattle.modes.specs.declared.mode.Occupancy.TheVariants.{Khz1, Khz3, Khz5, Khz10}
-use Rattle.lineup.specs.LineUps.{cells_of, plan_whole}
+use Rattle.modes.specs.declared.mode.TisConstellation.{TisConstellation}
+use Rattle.modes.specs.declared.mode.TisConstellation.TheVariants.{Qam4, Qam16}
+use Rattle.lineup.specs.LineUps.{cells_of, plan_whole, tis_cells}
+
+-- the cells that the TIS takes, by the number of its constellation
+pub tis_cells_counted : (t : TisConstellation) → tis_count t ≡ tis_cells (tis_number t)
+tis_cells_counted Qam4 = refl
+tis_cells_counted Qam16 = refl
 
 -- no frame has more cells than the widest
 pub cells-le : (o : Occupancy) → cells_of (occupancy_number o) ≤ 3435

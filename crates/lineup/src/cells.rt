@@ -2,7 +2,7 @@
 ghost use Rattle.std.specs.Prelude.{◌≡◌, ◌≤◌, length, MatchOption, vec_capacity};
 ghost use Rattle.modes.specs.Modes.{occupancy_number, tis_number};
 ghost use Rattle.lineup.specs.Kinds.{kind_number, plan_bytes};
-ghost use Rattle.lineup.specs.LineUps.{BadByte, BytesKnown, cells_of, cells_of_kind, streams_fit, tis_cells};
+ghost use Rattle.lineup.specs.LineUps.{BadByte, BytesKnown, cells_of, cells_of_kind, streams_fit};
 
 use crate::kind::CellKind;
 use modes::{Occupancy, TisConstellation};
@@ -26,16 +26,6 @@ pub(crate) fn frame_cells(occupancy: Occupancy) -> usize
     SYMBOLS * carriers
 }
 
-// The cells that the TIS takes.
-fn tis_cells(tis: TisConstellation) -> usize
-    ensures { result ≡ tis_cells (tis_number tis) }
-{
-    match tis {
-        TisConstellation::Qam4 => 102,
-        TisConstellation::Qam16 => 51,
-    }
-}
-
 // How many cells of a plan are of a kind.
 pub(crate) fn count(plan: &[u8], kind: CellKind) -> usize
     ensures { result ≡ cells_of_kind (kind_number kind) plan.now }
@@ -53,11 +43,12 @@ pub(crate) fn bad_byte(plan: &[u8]) -> Option<usize>
 }
 
 // Whether the MIS and the TIS have cells enough.
+#[tactic(auto, using(crate::proofs::Sizes::tis_cells_counted))]
 pub(crate) fn streams_fit(tis: TisConstellation, plan: &[u8]) -> bool
     ensures { result ≡ streams_fit (tis_number tis) plan.now }
 {
     let mis = count(plan, CellKind::Mis);
-    mis >= MIS_CELLS && count(plan, CellKind::Tis) >= tis_cells(tis)
+    mis >= MIS_CELLS && count(plan, CellKind::Tis) >= tis.cell_count()
 }
 
 // Makes the plan the kinds that the bytes stand for. There is room for them, so no memory is needed.

@@ -5,6 +5,7 @@ use Rattle.cells.specs.declared.cell.Cell.{Cell}
 use Rattle.cells.specs.declared.cell.Order.{Order}
 use Rattle.cells.specs.declared.cell.Order.TheVariants.{Four, Sixteen}
 use Rattle.streams.specs.Tis.{tis_record, tis_read}
+use Rattle.modes.specs.Modes.{tis_count}
 use Rattle.modes.specs.declared.mode.TisConstellation.{TisConstellation}
 use Rattle.modes.specs.declared.mode.TisConstellation.TheVariants.{Qam4, Qam16}
 use Rattle.modes.specs.declared.station.Tis.{Tis}
@@ -19,11 +20,6 @@ use Rattle.modem.specs.declared.stream.Trace.{Trace}
 abbrev pub tis_order : TisConstellation → Order
 tis_order Qam4 = Four
 tis_order Qam16 = Sixteen
-
--- the cells that the 203 bits of a word need: 102 of two bits, or 51 of four
-abbrev pub tis_count : TisConstellation → ℕ
-tis_count Qam4 = 102
-tis_count Qam16 = 51
 
 -- the message of the TIS: nine symbols
 abbrev pub tis_message : Tis → List ℕ

@@ -22,6 +22,11 @@ abbrev pub tis_number : TisConstellation → ℕ
 tis_number TisQam4 = 0
 tis_number TisQam16 = 1
 
+-- the cells that the TIS takes: its word has 203 bits, and a cell carries two of them, or four
+abbrev pub tis_count : TisConstellation → ℕ
+tis_count TisQam4 = 102
+tis_count TisQam16 = 51
+
 -- the numbers of the constellations of the data stream
 abbrev pub data_number : DataConstellation → ℕ
 data_number DataQam4 = 0

@@ -1,5 +1,5 @@
 // The mode of a frame: what it occupies, and the constellations of two of its streams.
-ghost use Rattle.modes.specs.Modes.{data_number, data_of, occupancy_number, occupancy_of, tis_number, tis_of};
+ghost use Rattle.modes.specs.Modes.{data_number, data_of, occupancy_number, occupancy_of, tis_count, tis_number, tis_of};
 ghost use Rattle.std.specs.Prelude.{◌≡◌};
 
 use crate::unknown::UnknownNumber;
@@ -62,6 +62,18 @@ impl TryFrom<u32> for Occupancy {
             2 => Ok(Occupancy::Khz5),
             3 => Ok(Occupancy::Khz10),
             _ => Err(UnknownNumber),
+        }
+    }
+}
+
+impl TisConstellation {
+    // How many cells the TIS takes.
+    pub fn cell_count(self) -> usize
+        ensures { result ≡ tis_count self }
+    {
+        match self {
+            TisConstellation::Qam4 => 102,
+            TisConstellation::Qam16 => 51,
         }
     }
 }

@@ -1,7 +1,4 @@
 // `tis O D R S H M U Q [I=V …]`: the TIS of a mode and a station, step by step, and what reading its cells gives.
-ghost use Rattle.std.specs.Prelude.{◌≡◌, ◌≤◌};
-ghost use Rattle.modem.specs.TisStream.{tis_count};
-
 use crate::answer::print_answer;
 use cells::Qam;
 use desk::numbers::{natural, number};
@@ -33,16 +30,6 @@ impl fmt::Display for StatedTis {
     }
 }
 
-// How many cells a TIS needs.
-fn cell_count(constellation: TisConstellation) -> usize
-    ensures { (result ≡ tis_count constellation) × (result ≤ 102) }
-{
-    match constellation {
-        TisConstellation::Qam4 => 102,
-        TisConstellation::Qam16 => 51,
-    }
-}
-
 fn coding(o: &str, d: &str, r: &str) -> Result<u8, Trouble> {
     let occupancy = Occupancy::try_from(natural(o, 3)?)?;
     let data = DataConstellation::try_from(natural(d, 2)?)?;
@@ -63,7 +50,7 @@ pub fn run_tis(rt: &impl Print, heap: Global, words: &[&str]) -> Result<(), Stop
     let constellation = TisConstellation::try_from(natural(q, 1)?)?;
     let tis = Tis::new(coding, station).ok_or(Trouble::OutOfRange)?;
     let trace = write_tis(&tis_code(), &Qam, constellation, tis);
-    let count = cell_count(constellation);
+    let count = constellation.cell_count();
     let mut cells = trace.cells;
     set_numbers(settings, &mut cells[..count])?;
     let steps = Steps {
