@@ -1,18 +1,11 @@
--- Laws of the bits of a packet: the fields of its header, and what is written behind what is written.
+-- Laws of the bits of a packet: the fields of its header, and the zeros behind it.
 use Rattle.std.proofs.Common.{◌≡◌, ℕ, zero, suc, ◌+◌, ◌*◌, ◌^◌, ◌<◌, ◌≤◌, Bool, true, false, eqb, List, [], ◌∷◌, ◌++◌, length, get_or, take, drop, replicate, sym, refl, ap, ◌∙◌, arith, take-add, pow_mono}
-use borrow.Rule.Slice.PartMut.{put_mid}
-use Rattle.std.proofs.lemmas.List.{append_assoc, drop_at, drop-drop, drop_more, length-append, length-drop, length-take, take_at}
+use Rattle.std.proofs.lemmas.List.{drop_more, length-append, length-drop, length-take}
 use Rattle.std.proofs.lemmas.Bool.{and_parts, eqb-true, leb-true, ltb-true}
 use Rattle.bits.specs.Bits.{◌⊕◌, AllBelow, bits_of, number_of}
 use Rattle.bits.proofs.Bits.{bits_of-number_of, length-bits_of, length-spread, number_of-below, number_of-bits_of}
 use Rattle.packets.specs.declared.reading.Fields.{Fields}
 use Rattle.packets.specs.Packets.{Content, Fits, all_zero, field_at, fields_in, has_room, header_bits, packet_bits, packet_length, stated}
-
--- one part more, written behind what is written
-pub put_more : {X : Type 0} (front entry now part more : List X) (a k b : ℕ) → length front ≡ a → a + k ≡ b → now ≡ front ++ drop a entry → part ≡ more →
-    put_mid a k now part ≡ front ++ more ++ drop b entry
-put_more front entry now part more a k b size end e same =
-    rw (e, same, take_at front (drop a entry) a size, drop_at front (drop a entry) a size, drop-drop k a entry, end, append_assoc)
 
 pub field_below : (place w : ℕ) (bits : List Bool) → field_at place w bits < 2 ^ w
 field_below place w bits =

@@ -16,7 +16,8 @@ fn has_room(packet: Packet<'_>, size: usize) -> bool
         && (1..=size - 6).contains(&count)
 }
 
-// The length of the packet that has these data: 4 bytes of the header before them and 2 of the check behind.
+// The length of the packet that has these data: 4 bytes of the header before them and 2 of the check behind. That the
+// data are bytes is known of a slice, and not of a slice in a struct.
 fn total_length(data: &[u8]) -> usize
     ensures value { result ≡ length «data».now + 6 }
     ensures octets { AllBelow 256 «data».now }
@@ -31,11 +32,14 @@ fn write_header(packet: Packet<'_>, bits: &mut [bool])
     ensures { bits.new ≡ header_bits (carried packet.entry) }
 {
     let Packet { header, data } = packet;
-    write_number(total_length(data) as u32, &mut bits[0..12]);
-    bits[12..15].copy_from_slice(&[header.toggle, header.id == 0, header.last]);
-    write_number(u32::from(header.id), &mut bits[15..25]);
+    let (length, rest) = bits.split_at_mut(12);
+    let (flags, rest) = rest.split_at_mut(3);
+    let (id, zeros) = rest.split_at_mut(10);
+    write_number(total_length(data) as u32, length);
+    flags.copy_from_slice(&[header.toggle, header.id == 0, header.last]);
+    write_number(u32::from(header.id), id);
     // the fill indicator and the reserved bits
-    write_number(0, &mut bits[25..32]);
+    write_number(0, zeros);
 }
 
 // Writes the bits of the packet: header and data, and behind them their check.
@@ -44,11 +48,12 @@ fn write_bits(packet: Packet<'_>, bits: &mut [bool])
     requires size { length bits.old ≡ 8 * (length packet.«data».now + 6) }
     ensures { bits.new ≡ packet_bits (carried packet.entry) }
 {
-    let end = 32 + 8 * packet.data.len();
-    write_header(packet, &mut bits[0..32]);
-    spread_bytes(packet.data, &mut bits[32..end]);
-    let check = crc16(&bits[0..end]);
-    write_number(u32::from(check), &mut bits[end..end + 16]);
+    let (covered, tail) = bits.split_at_mut(32 + 8 * packet.data.len());
+    let (header, data) = covered.split_at_mut(32);
+    write_header(packet, header);
+    spread_bytes(packet.data, data);
+    let check = crc16(covered);
+    write_number(u32::from(check), tail);
 }
 
 /// Fills a block with the packet, or leaves it as it was.
@@ -62,7 +67,8 @@ pub fn write_packet(packet: Packet<'_>, block: &mut [u8]) -> Result<(), NoRoom>
     let mut store = [false; MOST_BITS];
     let bits = &mut store[0..8 * total];
     write_bits(packet, bits);
-    cut_bytes(bits, &mut block[0..total]);
-    block[total..].fill(0);
+    let (front, filler) = block.split_at_mut(total);
+    cut_bytes(bits, front);
+    filler.fill(0);
     Ok(())
 }
