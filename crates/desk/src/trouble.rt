@@ -1,11 +1,14 @@
 // What is wrong with a line of a script, and what ends a command.
 ghost use Rattle.std.specs.Prelude.{◌≡◌};
+ghost use Rattle.std.specs.IoError.{error_kind};
+ghost use Rattle.std.specs.declared.io.ErrorKind.TheVariants.{OutOfMemory};
 ghost use Rattle.desk.specs.Troubles.{hex_trouble};
+ghost use Rattle.desk.specs.declared.trouble.Stop.TheVariants.{Output};
 ghost use Rattle.desk.specs.declared.trouble.Trouble.TheVariants.{NoMemory, NoNumber, NoText, OutOfRange};
 
 use hex::FromHexError;
 use modes::UnknownNumber;
-use std::alloc::{AllocError, AllocFailed};
+use std::alloc::AllocError;
 use std::io;
 use std::num::ParseIntError;
 use std::str::Utf8Error;
@@ -77,14 +80,6 @@ impl From<AllocError> for Trouble {
     }
 }
 
-impl<T: Drop> From<AllocFailed<T>> for Trouble {
-    ghost from_gives = { λ _ why. why ≡ NoMemory };
-
-    fn from(_: AllocFailed<T>) -> Trouble {
-        Trouble::NoMemory
-    }
-}
-
 // What ends a command before it is done: its line is wrong, or the program cannot print.
 #[derive(Debug, Drop, Error)]
 pub enum Stop {
@@ -96,6 +91,8 @@ pub enum Stop {
 
 // The memory that printing takes.
 impl From<AllocError> for Stop {
+    ghost from_gives = { λ _ stop. (error : _) × (stop ≡ Output error) × (error_kind error ≡ OutOfMemory) };
+
     fn from(error: AllocError) -> Stop {
         Stop::Output(error.into())
     }
