@@ -1,23 +1,11 @@
 -- Laws of the bits of a packet: the fields of its header, and the zeros behind it.
-use Rattle.std.proofs.Common.{◌≡◌, ℕ, zero, suc, ◌+◌, ◌*◌, ◌^◌, ◌<◌, ◌≤◌, Bool, true, false, eqb, List, [], ◌∷◌, ◌++◌, length, get_or, take, drop, replicate, sym, refl, ap, ◌∙◌, arith, take-add, pow_mono}
-use Rattle.std.proofs.lemmas.List.{drop_more, length-append, length-drop, length-take}
+use Rattle.std.proofs.Common.{◌≡◌, ℕ, zero, suc, ◌*◌, ◌<◌, ◌≤◌, Bool, true, false, eqb, List, [], ◌∷◌, ◌++◌, length, get_or, take, drop, replicate, sym, refl, ap, ◌∙◌, arith, take-add}
+use Rattle.std.proofs.lemmas.List.{drop_more, length-append}
 use Rattle.std.proofs.lemmas.Bool.{and_parts, eqb-true, leb-true, ltb-true}
 use Rattle.bits.specs.Bits.{◌⊕◌, AllBelow, bits_of, number_of}
-use Rattle.bits.proofs.Bits.{bits_of-number_of, length-bits_of, length-spread, number_of-below, number_of-bits_of}
+use Rattle.bits.proofs.Bits.{field_bits, length-bits_of, length-spread, number_of-bits_of}
 use Rattle.packets.specs.declared.reading.Fields.{Fields}
-use Rattle.packets.specs.Packets.{Content, Fits, all_zero, field_at, fields_in, has_room, header_bits, packet_bits, packet_length, stated}
-
-pub field_below : (place w : ℕ) (bits : List Bool) → field_at place w bits < 2 ^ w
-field_below place w bits =
-    let q : length (take w (drop place bits)) ≤ w = rw length-take (omega arith) in
-    let p : 2 ^ length (take w (drop place bits)) ≤ 2 ^ w = pow_mono q in
-    omega (arith, number_of-below (take w (drop place bits)))
-
--- a field's number, written again
-pub field_bits : (place w : ℕ) (bits : List Bool) → place + w ≤ length bits → bits_of w (field_at place w bits) ≡ take w (drop place bits)
-field_bits place w bits h =
-    let e : length (take w (drop place bits)) ≡ w = simp (length-take, length-drop) (omega arith) in
-    rw e at (bits_of-number_of (take w (drop place bits)))
+use Rattle.packets.specs.Packets.{Content, Fits, all_zero, fields_in, has_room, header_bits, packet_bits, packet_length, stated}
 
 pub length-header_bits : (c : Content) → length (header_bits c) ≡ 32
 unfolding header_bits bits_of

@@ -2,14 +2,14 @@
 use Rattle.std.proofs.Common.{◌≡◌, ℕ, ◌+◌, ◌-◌, ◌*◌, ◌≤◌, Bool, true, false, eqb, List, ◌++◌, length, take, drop, replicate, Some, None, Option, sym, refl, ap, ◌∙◌, subst, inl, inr, arith, lit<, take-add}
 use Rattle.std.proofs.lemmas.List.{append_assoc, drop_at, length-append, length-drop, length-replicate, length-take, length-take-le, take_all, take-append-drop, take_at}
 use Rattle.std.proofs.lemmas.Bool.{both_ways, cases_Bool, eq-eqb, eqb-true, le-ltb, ltb-false, not-false, not_from_true, or_from, or_parts}
-use Rattle.bits.specs.Bits.{AllBelow, bits_of, cut, spread}
-use Rattle.bits.specs.Crc16.{crc16_of}
-use Rattle.bits.proofs.Bits.{cut_below, cut-spread, length-bits_of, length_cut, length-spread, number_of-bits_of, spread_cut}
+use Rattle.bits.specs.Bits.{AllBelow, bits_of, cut, field_at, spread}
+use Rattle.bits.specs.Crc.{crc16_of}
+use Rattle.bits.proofs.Bits.{cut-spread, cut_below, field_below, field_bits, length-bits_of, length-spread, length_cut, number_of-bits_of, spread_cut}
 use Rattle.bits.proofs.ByteLaws.{below-append, below-drop, below-replicate, below-take, drop-spread, same_from_spread, spread-append, take-spread}
 use Rattle.bits.proofs.Remainders.{crc_below}
 use Rattle.packets.specs.declared.reading.Fields.{Fields}
-use Rattle.packets.specs.Packets.{Content, Fits, Reads, all_zero, bad_block, block_of, covered_bits, field_at, fields_in, header_bits, is_bad, packet_bits, packet_bytes, packet_in, packet_length, stated, wrong_size}
-use Rattle.packets.proofs.BitLaws.{field_below, field_bits, fields_back, fields_of_lem, fields_of, header_back, length-header_bits, length-packet_bits, same_bits, sum_self, zeros_all, zeros_from}
+use Rattle.packets.specs.Packets.{Content, Fits, Reads, all_zero, bad_block, block_of, covered_bits, fields_in, header_bits, is_bad, packet_bits, packet_bytes, packet_in, packet_length, stated, wrong_size}
+use Rattle.packets.proofs.BitLaws.{fields_back, fields_of_lem, fields_of, header_back, length-header_bits, length-packet_bits, same_bits, sum_self, zeros_all, zeros_from}
 
 -- none of the conditions that make a block bad
 pub record Good (f : Fields) (block : List ℕ) (bits : List Bool) : Type 0 where
@@ -165,7 +165,7 @@ module _ (size : ℕ) (c : Content) (fits : Fits size c) where
         drop_at (covered_bits c) check_and_zeros (8 * (count - 2)) covered_length,
         take_at (bits_of 16 check_made) (spread 8 zeros-behind) 16 (length-bits_of 16 check_made),
       )
-      (number_of-bits_of 16 check_made (crc_below 16 4129 (covered_bits c) check_made refl))
+      (number_of-bits_of 16 check_made (crc_below 16 4129 (covered_bits c)))
 
   filler : drop count block_made ≡ zeros-behind
   unfolding block_of

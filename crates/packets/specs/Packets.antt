@@ -1,8 +1,8 @@
 -- Packets: a header of 32 bits, data and a check of 16 bits, one packet to a block.
 use Rattle.std.specs.Prelude.{◌≡◌, ℕ, ◌+◌, ◌-◌, ◌*◌, ◌<◌, ◌≤◌, Bool, false, cond, not, ◌&&◌, ◌||◌, List, [], ◌∷◌, ◌++◌, length, take, drop, replicate, Some, None, Ok, Err, Option, Result, ◌==◌, nat_eq, nat_le, nat_lt, slice_index_or}
 use Rattle.std.specs.List.{list_all}
-use Rattle.bits.specs.Bits.{◌⊕◌, AllBelow, bits_of, number_of, cut, spread}
-use Rattle.bits.specs.Crc16.{crc16_of}
+use Rattle.bits.specs.Bits.{◌⊕◌, AllBelow, bits_of, field_at, cut, spread}
+use Rattle.bits.specs.Crc.{crc16_of}
 use Rattle.packets.specs.declared.parts.Header.{Header}
 use Rattle.packets.specs.declared.parts.Packet.{Packet}
 use Rattle.packets.specs.declared.parts.BadPacket.{BadPacket}
@@ -65,10 +65,6 @@ carried p = content_of p.header p.«data».now
 abbrev pub Written : {A E : Type 0} → Content → (before after : List ℕ) → Result A E → Type 0
 Written c before after (Ok _) = Fits (length before) c × (after ≡ block_of (length before) c)
 Written c before after (Err _) = (Fits (length before) c → ⊥) × (after ≡ before)
-
--- a field of w bits, from a place on
-abbrev pub field_at : ℕ → ℕ → List Bool → ℕ
-field_at place w bits = number_of (take w (drop place bits))
 
 -- the header's fields as they stand in the bits of a block
 unfoldable pub fields_in : List Bool → Fields

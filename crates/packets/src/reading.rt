@@ -5,7 +5,7 @@ ghost use Rattle.packets.specs.Packets.{answered, bad_block, fields_in, packet_i
 ghost use Rattle.bits.specs.Bits.{spread};
 
 use crate::parts::{BadPacket, Header, LEAST_BLOCK, MOST_BITS, MOST_BLOCK, Packet};
-use bits::{crc16, read_number, spread_bytes};
+use bits::{crc16, read_number, spread};
 
 // A header as it stands in a block, right or wrong.
 #[derive(Clone, Copy)]
@@ -103,7 +103,7 @@ pub fn read_packet(block: &[u8]) -> Result<Packet<'_>, BadPacket>
     }
     let mut store = [false; MOST_BITS];
     let bits = &mut store[0..8 * block.len()];
-    spread_bytes(block, bits);
+    spread::<8>(block, bits);
     let fields = Fields::of(bits);
     if fields.is_bad(block, bits) {
         return Err(BadPacket);

@@ -4,7 +4,7 @@ ghost use Rattle.bits.specs.Bits.{AllBelow};
 ghost use Rattle.packets.specs.Packets.{carried, has_room, header_bits, packet_bits, Written};
 
 use crate::parts::{LEAST_BLOCK, MOST_BITS, MOST_BLOCK, NoRoom, Packet};
-use bits::{crc16, cut_bytes, spread_bytes, write_number};
+use bits::{crc16, cut, spread, write_number};
 
 // Whether the packet fits a block of `size` bytes.
 fn has_room(packet: Packet<'_>, size: usize) -> bool
@@ -51,7 +51,7 @@ fn write_bits(packet: Packet<'_>, bits: &mut [bool])
     let (covered, tail) = bits.split_at_mut(32 + 8 * packet.data.len());
     let (header, data) = covered.split_at_mut(32);
     write_header(packet, header);
-    spread_bytes(packet.data, data);
+    spread::<8>(packet.data, data);
     let check = crc16(covered);
     write_number(u32::from(check), tail);
 }
@@ -68,7 +68,7 @@ pub fn write_packet(packet: Packet<'_>, block: &mut [u8]) -> Result<(), NoRoom>
     let bits = &mut store[0..8 * total];
     write_bits(packet, bits);
     let (front, filler) = block.split_at_mut(total);
-    cut_bytes(bits, front);
+    cut::<8>(bits, front);
     filler.fill(0);
     Ok(())
 }

@@ -32,7 +32,7 @@ returns c =
     let told = c.if-is_bad.ensures.value in
     let right : wrong_size (length c.args.block.now) ≡ false = sym c.if-wrong_size.ensures in
     let good : bad_block (fields_in (spread 8 c.args.block.now)) c.args.block.now (spread 8 c.args.block.now) ≡ false = cc in
-    let fields : f ≡ fields_in (spread 8 c.args.block.now) = c.of-fields.ensures ∙ ap fields_in c.spread_bytes.ensures in
+    let fields : f ≡ fields_in (spread 8 c.args.block.now) = c.of-fields.ensures ∙ ap fields_in c.spread.ensures in
     let six : f.total - 2 - 4 ≡ f.total - 6 = omega arith in
     let found =
     ap (λ n. Some (content_of (record { toggle = f.toggle; last = f.last; id = f.id }) (take n (drop 4 block)))) six ∙

@@ -17,7 +17,7 @@ returns c =
     let split = c.split_at_mut-front.ensures in
     let size : length c.split_at_mut-front.result.0.now ≡ n = omega arith in
     let rest : length c.split_at_mut-front.result.1.now ≡ length block - n = omega arith in
-    let packet : c.cut_bytes.new.bytes ≡ packet_bytes content =
-    c.cut_bytes.ensures ∙ ap (λ k. cut 8 k c.write_bits.new.bits) size ∙ ap (λ l. cut 8 n l) c.write_bits.ensures in
+    let packet : c.cut.new.numbers ≡ packet_bytes content =
+    c.cut.ensures ∙ ap (λ k. cut 8 k c.write_bits.new.bits) size ∙ ap (λ l. cut 8 n l) c.write_bits.ensures in
     let zeros : c.fill.new.self ≡ replicate (length block - n) 0 = c.fill.ensures.after (λ y e. e) ∙ ap (λ k. replicate k 0) rest in
     (fits, cc)

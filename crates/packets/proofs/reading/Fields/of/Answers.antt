@@ -1,5 +1,5 @@
 use Rattle.std.proofs.Common.{arith}
-use Rattle.packets.proofs.BitLaws.{field_below}
+use Rattle.bits.proofs.Bits.{field_below}
 use Rattle.packets.proofs.reading.Fields.of.Goals as goal
 
 pub overflow_cast-result-2 : goal.overflow_cast-result-2
