@@ -1,9 +1,8 @@
 // `mis O T D [I=V …]`: the MIS of three mode numbers, step by step, and what reading its cells gives.
-use crate::answer::print_answer;
+use crate::answer::{print_answer, steps_of};
 use cells::Qam;
 use desk::numbers::natural;
 use desk::settings::set_numbers;
-use desk::text::Steps;
 use desk::trouble::{Stop, Trouble};
 use modem::{FrameFault, read_mis, write_mis};
 use modes::{DataConstellation, Mis, Occupancy, TisConstellation};
@@ -48,14 +47,7 @@ pub fn run_mis(rt: &impl Print, heap: Global, words: &[&str]) -> Result<(), Stop
     let trace = write_mis(&mis_code(), &Qam, mode(o, t, d)?);
     let mut cells = trace.cells;
     set_numbers(settings, &mut cells)?;
-    let steps = Steps {
-        record: &trace.record,
-        scrambled: &trace.scrambled,
-        message: &trace.message,
-        word: &trace.word,
-        cells: &trace.cells,
-    };
-    steps.print(rt, heap, "mis")?;
+    steps_of(&trace, trace.cells.len()).print(rt, heap, "mis")?;
     let answer = read_mis(&mis_code(), &Qam, &cells).map_err(FrameFault::Mis);
     print_answer(rt, "mis", answer, ModeNumbers)?;
     Ok(())

@@ -1,9 +1,8 @@
 // `tis O D R S H M U Q [I=V …]`: the TIS of a mode and a station, step by step, and what reading its cells gives.
-use crate::answer::print_answer;
+use crate::answer::{print_answer, steps_of};
 use cells::Qam;
 use desk::numbers::{natural, number};
 use desk::settings::set_numbers;
-use desk::text::Steps;
 use desk::trouble::{Stop, Trouble};
 use modem::{FrameFault, read_tis, write_tis};
 use modes::{DataConstellation, Occupancy, Rate, Station, Tis, TisConstellation, data_coding};
@@ -41,29 +40,24 @@ fn station(s: &str, h: &str, m: &str, u: &str) -> Result<Station, Trouble> {
     Station::new(number(s)?, number(h)?, number(m)?, number(u)?).ok_or(Trouble::OutOfRange)
 }
 
+fn constellation(q: &str) -> Result<TisConstellation, Trouble> {
+    Ok(TisConstellation::try_from(natural(q, 1)?)?)
+}
+
 // Runs the command's words, and prints nothing where one of them is wrong.
 pub fn run_tis(rt: &impl Print, heap: Global, words: &[&str]) -> Result<(), Stop> {
     let [o, d, r, s, h, m, u, q, settings @ ..] = words else {
         return Err(Trouble::TooFew.into());
     };
     let (coding, station) = (coding(o, d, r)?, station(s, h, m, u)?);
-    let constellation = TisConstellation::try_from(natural(q, 1)?)?;
+    let constellation = constellation(q)?;
     let tis = Tis::new(coding, station).ok_or(Trouble::OutOfRange)?;
     let trace = write_tis(&tis_code(), &Qam, constellation, tis);
     let count = constellation.cell_count();
     let mut cells = trace.cells;
     set_numbers(settings, &mut cells[..count])?;
-    let steps = Steps {
-        record: &trace.record,
-        scrambled: &trace.scrambled,
-        message: &trace.message,
-        word: &trace.word,
-        cells: &trace.cells[..count],
-    };
-    steps.print(rt, heap, "tis")?;
-    let answer = read_tis(&tis_code(), &Qam, constellation, &cells).map_err(
-        FrameFault::Tis,
-    );
+    steps_of(&trace, count).print(rt, heap, "tis")?;
+    let answer = read_tis(&tis_code(), &Qam, constellation, &cells).map_err(FrameFault::Tis);
     print_answer(rt, "tis", answer, StatedTis)?;
     Ok(())
 }
