@@ -4,6 +4,7 @@
 mod answer;
 mod drafts;
 mod mis;
+mod parts;
 mod script;
 mod tis;
 

@@ -1,11 +1,11 @@
 // `mis O T D [I=V …]`: the MIS of three mode numbers, step by step, and what reading its cells gives.
 use crate::answer::{print_answer, steps_of};
+use crate::parts::part;
 use cells::Qam;
-use desk::numbers::natural;
 use desk::settings::set_numbers;
 use desk::trouble::{Stop, Trouble};
 use modem::{FrameFault, read_mis, write_mis};
-use modes::{DataConstellation, Mis, Occupancy, TisConstellation};
+use modes::Mis;
 use reed_solomon::streams::mis as mis_code;
 use std::alloc::Global;
 use std::fmt;
@@ -33,9 +33,9 @@ impl fmt::Display for ModeNumbers {
 
 fn mode(o: &str, t: &str, d: &str) -> Result<Mis, Trouble> {
     Ok(Mis {
-        occupancy: Occupancy::try_from(natural(o, 3)?)?,
-        tis: TisConstellation::try_from(natural(t, 1)?)?,
-        data: DataConstellation::try_from(natural(d, 2)?)?,
+        occupancy: part(o)?,
+        tis: part(t)?,
+        data: part(d)?,
     })
 }
 

@@ -1,11 +1,12 @@
 // `tis O D R S H M U Q [I=V …]`: the TIS of a mode and a station, step by step, and what reading its cells gives.
 use crate::answer::{print_answer, steps_of};
+use crate::parts::part;
 use cells::Qam;
-use desk::numbers::{natural, number};
+use desk::numbers::number;
 use desk::settings::set_numbers;
 use desk::trouble::{Stop, Trouble};
 use modem::{FrameFault, read_tis, write_tis};
-use modes::{DataConstellation, Occupancy, Rate, Station, Tis, TisConstellation, data_coding};
+use modes::{Station, Tis, data_coding};
 use reed_solomon::streams::tis as tis_code;
 use std::alloc::Global;
 use std::fmt;
@@ -29,19 +30,8 @@ impl fmt::Display for StatedTis {
     }
 }
 
-fn coding(o: &str, d: &str, r: &str) -> Result<u8, Trouble> {
-    let occupancy = Occupancy::try_from(natural(o, 3)?)?;
-    let data = DataConstellation::try_from(natural(d, 2)?)?;
-    let rate = Rate::try_from(natural(r, 1)?)?;
-    Ok(data_coding(occupancy, data, rate))
-}
-
 fn station(s: &str, h: &str, m: &str, u: &str) -> Result<Station, Trouble> {
     Station::new(number(s)?, number(h)?, number(m)?, number(u)?).ok_or(Trouble::OutOfRange)
-}
-
-fn constellation(q: &str) -> Result<TisConstellation, Trouble> {
-    Ok(TisConstellation::try_from(natural(q, 1)?)?)
 }
 
 // Runs the command's words, and prints nothing where one of them is wrong.
@@ -49,8 +39,9 @@ pub fn run_tis(rt: &impl Print, heap: Global, words: &[&str]) -> Result<(), Stop
     let [o, d, r, s, h, m, u, q, settings @ ..] = words else {
         return Err(Trouble::TooFew.into());
     };
-    let (coding, station) = (coding(o, d, r)?, station(s, h, m, u)?);
-    let constellation = constellation(q)?;
+    let coding = data_coding(part(o)?, part(d)?, part(r)?);
+    let station = station(s, h, m, u)?;
+    let constellation = part(q)?;
     let tis = Tis::new(coding, station).ok_or(Trouble::OutOfRange)?;
     let trace = write_tis(&tis_code(), &Qam, constellation, tis);
     let count = constellation.cell_count();
