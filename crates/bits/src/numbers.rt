@@ -10,9 +10,11 @@ pub fn cut<const WIDTH: usize>(bits: &[bool], numbers: &mut [u8])
     requires room { WIDTH * length numbers.old ≤ length bits.now }
     ensures { numbers.new ≡ cut WIDTH (length numbers.old) bits.now }
 {
-    for (i, number) in numbers.iter_mut().enumerate() {
-        let place = WIDTH * i;
-        *number = read_number(&bits[place..place + WIDTH]) as u8;
+    let mut rest = bits;
+    for number in numbers.iter_mut() {
+        let (field, behind) = rest.split_at(WIDTH);
+        *number = read_number(field) as u8;
+        rest = behind;
     }
 }
 
