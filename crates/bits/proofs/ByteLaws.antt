@@ -1,4 +1,4 @@
--- Laws of bytes as bits, and of what all numbers of a list are below.
+-- Laws of numbers as bits, and of what all numbers of a list are below.
 use Rattle.std.proofs.Common.{◌≡◌, ℕ, zero, suc, ◌*◌, ◌^◌, ◌<◌, ◌≤◌, List, [], ◌∷◌, ◌++◌, length, get_or, take, drop, replicate, refl, ap, ◌∙◌, arith}
 use Rattle.std.proofs.lemmas.List.{append_assoc, length-take-le, take-append-drop, take_at, drop_at}
 use Rattle.bits.specs.Bits.{AllBelow, spread}

@@ -29,7 +29,7 @@ pub fn amplitude(order: Order, v: u8) -> Option<i16>
 fn depth(order: Order, x: i16) -> i32
     ensures { result ≡ amplitude_at (axis_bits order) 0 -ℤ x }
 {
-    i32::from(order.largest()) * 256 - i32::from(x)
+    i32::from(amplitude_of(order, 0)) - i32::from(x)
 }
 
 // The number of the amplitude nearest to `x`; a tie goes to the larger amplitude.
@@ -70,7 +70,7 @@ fn axis_point(order: Order, bits: &[bool]) -> i16
 }
 
 // Quadrature amplitude modulation: the first half of a cell's bits gives the real amplitude, the second the imaginary one.
-#[derive(Clone, Copy, PartialEq, Debug)]
+#[derive(Clone, Copy, PartialEq, Eq, Debug)]
 pub struct Qam;
 
 impl Constellation for Qam {

@@ -1,4 +1,4 @@
-// What the commands of a script share: words, numbers, bytes and cells, read and printed.
+// The program's words, numbers, bytes and cells, read and printed, and its commands on packets.
 #![tactic(auto)]
 
 pub mod numbers;

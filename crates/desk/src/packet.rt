@@ -2,23 +2,25 @@
 use crate::numbers::natural;
 use crate::trouble::{Stop, Trouble};
 use crate::words::exactly;
-use packets::{Header, Packet, read_packet, write_packet};
+use packets::{Header, LEAST_BLOCK, MOST_BLOCK, Packet, read_packet, write_packet};
 use refusals::Refusal;
 use std::alloc::Global;
 use std::io;
 
-// The longest block.
-const MOST_BLOCK: u32 = 1440;
+// 0 or 1
+fn flag(word: &str) -> Result<bool, Trouble> {
+    Ok(natural(word, 1)? == 1)
+}
 
 // The block that the words ask for.
 fn block_of(heap: Global, words: &[&str]) -> Result<Vec<u8>, Trouble> {
     let [toggle, last, id, size, data] = exactly::<_, 5>(words)?;
     let header = Header {
-        toggle: natural(toggle, 1)? == 1,
-        last: natural(last, 1)? == 1,
+        toggle: flag(toggle)?,
+        last: flag(last)?,
         id: natural(id, 1023)? as u16,
     };
-    let size = natural(size, MOST_BLOCK)? as usize;
+    let size = natural(size, MOST_BLOCK as u32)? as usize;
     let data = hex::decode(heap, data)?;
     let mut block = vec![in heap; 0u8; size]?;
     write_packet(Packet { header, data: &data }, &mut block).map_err(|_| Trouble::NoRoom)?;
@@ -47,7 +49,7 @@ fn print_content(rt: &impl Print, heap: Global, packet: Packet) -> io::Result<()
 fn block_bytes(heap: Global, words: &[&str]) -> Result<Vec<u8>, Trouble> {
     let [block] = exactly::<_, 1>(words)?;
     let block = hex::decode(heap, block)?;
-    if block.len() < 7 || block.len() > MOST_BLOCK as usize {
+    if !(LEAST_BLOCK..=MOST_BLOCK).contains(&block.len()) {
         return Err(Trouble::OutOfRange);
     }
     Ok(block)

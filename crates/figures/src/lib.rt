@@ -44,7 +44,7 @@ pub fn tis_differing(constellation: TisConstellation, one: Tis, other: Tis) -> u
 }
 
 // In how many places two MIS differ.
-#[derive(Clone, Copy)]
+#[derive(Clone, Copy, PartialEq, Eq, Debug)]
 pub struct MisDiffering {
     // of the 14 scrambled bits
     pub bits: usize,

@@ -49,11 +49,8 @@ impl Asked<'_> {
             self.columns as usize,
         )?;
         let columns = columns_for(rate, shape.rows());
-        if shape.columns() == columns && shape.exponents() == self.exponents.len() {
-            Some(shape)
-        } else {
-            None
-        }
+        let fits = shape.columns() == columns && shape.exponents() == self.exponents.len();
+        fits.then_some(shape)
     }
 
     // The mode and the shape of the code that are asked for, or why that is refused: the first reason that holds.

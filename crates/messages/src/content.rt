@@ -5,14 +5,14 @@ ghost use Rattle.messages.specs.Answers.{placing_name};
 use packets::Header;
 
 // What next answers: a packet's header, and how many bytes of data it wrote.
-#[derive(Clone, Copy)]
+#[derive(Clone, Copy, PartialEq, Eq, Debug)]
 pub struct NextPacket {
     pub header: Header,
     pub length: usize,
 }
 
 // What take answers of a packet.
-#[derive(Clone, Copy)]
+#[derive(Clone, Copy, PartialEq, Eq, Debug)]
 pub enum Placing {
     // a piece that was outstanding, and others still are
     Placed,

@@ -53,6 +53,7 @@ impl Sender {
             return Err(Refusal::TooManyPieces);
         }
         self.message.clear();
+        // there is room, so this does not fail
         let _ = self.message.extend_from_slice(message);
         self.progress = Progress::Waiting;
         Ok(())

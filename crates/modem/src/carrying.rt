@@ -8,10 +8,11 @@ use bits::{cut, scramble, spread};
 use cells::{Cell, Constellation, Modulation};
 use codes::words::{BeyondReach, MendingCode};
 
-// The longest word has 5120 symbols, of seven bits each.
+// the symbols of the longest word
 const MOST_SYMBOLS: usize = 5120;
 
-const MOST_BITS: usize = 35840;
+// its bits, seven to a symbol
+const MOST_BITS: usize = 7 * MOST_SYMBOLS;
 
 // What a stream's record states, and how many symbols were mended.
 #[derive(Clone, Copy)]

@@ -8,7 +8,7 @@ use refusals::Refusal;
 use streams::BadRecord;
 
 // Why a stream cannot be read.
-#[derive(Clone, Copy)]
+#[derive(Clone, Copy, PartialEq, Eq, Debug)]
 pub enum StreamFault {
     Reach(BeyondReach),
     Record(BadRecord),
@@ -31,7 +31,7 @@ impl From<BadRecord> for StreamFault {
 }
 
 // Why a frame cannot be read: the stream, and its fault.
-#[derive(Clone, Copy)]
+#[derive(Clone, Copy, PartialEq, Eq, Debug)]
 pub enum FrameFault {
     Mis(StreamFault),
     Tis(StreamFault),

@@ -58,8 +58,8 @@ pub(crate) fn write_stream<
     }
 }
 
-// What the cells of a stream state, and the symbols mended, or what is wrong with it. Cells that were sent,
-// `count` of them, are read as what was sent.
+// What the cells of a stream state, and the symbols mended, or what is wrong with it.
+// What was sent is read back, on however many cells its word was.
 pub(crate) fn read_stream<
     R: Record<BITS>,
     C: FixedCode<MESSAGE, WORD> + MendingCode<Symbol = u8>,

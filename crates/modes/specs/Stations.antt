@@ -1,4 +1,4 @@
--- The coding of the data stream by its number, and the TIS record of 63 bits that states it and the station.
+-- The station record of numbers, and what a TIS states by it, where they are within their bounds.
 use Rattle.std.specs.Prelude.{◌≡◌, ℕ, Bool, true, false, ◌&&◌, Some, None, Option, nat_le, nat_lt, refl}
 use Rattle.std.proofs.lemmas.Bool.{and_parts, leb-true, ltb-true}
 use Rattle.modes.specs.Station.{Allowed}

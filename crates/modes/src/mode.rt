@@ -41,12 +41,7 @@ impl From<Occupancy> for u8 {
     ghost from_gives = { λ x n. n ≡ occupancy_number x };
 
     fn from(occupancy: Occupancy) -> u8 {
-        match occupancy {
-            Occupancy::Khz1 => 0,
-            Occupancy::Khz3 => 1,
-            Occupancy::Khz5 => 2,
-            Occupancy::Khz10 => 3,
-        }
+        occupancy as u8
     }
 }
 
@@ -82,11 +77,8 @@ impl TisConstellation {
 impl From<TisConstellation> for u8 {
     ghost from_gives = { λ x n. n ≡ tis_number x };
 
-    fn from(constellation: TisConstellation) -> u8 {
-        match constellation {
-            TisConstellation::Qam4 => 0,
-            TisConstellation::Qam16 => 1,
-        }
+    fn from(tis: TisConstellation) -> u8 {
+        tis as u8
     }
 }
 
@@ -108,12 +100,8 @@ impl TryFrom<u32> for TisConstellation {
 impl From<DataConstellation> for u8 {
     ghost from_gives = { λ x n. n ≡ data_number x };
 
-    fn from(constellation: DataConstellation) -> u8 {
-        match constellation {
-            DataConstellation::Qam4 => 0,
-            DataConstellation::Qam16 => 1,
-            DataConstellation::Qam64 => 2,
-        }
+    fn from(data: DataConstellation) -> u8 {
+        data as u8
     }
 }
 

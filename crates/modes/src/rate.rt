@@ -17,10 +17,7 @@ impl From<Rate> for u8 {
     ghost from_gives = { λ x n. n ≡ rate_number x };
 
     fn from(rate: Rate) -> u8 {
-        match rate {
-            Rate::Half => 0,
-            Rate::ThreeQuarters => 1,
-        }
+        rate as u8
     }
 }
 

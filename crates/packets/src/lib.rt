@@ -5,6 +5,6 @@ mod parts;
 mod reading;
 mod writing;
 
-pub use parts::{BadPacket, Header, NoRoom, Packet};
+pub use parts::{BadPacket, Header, LEAST_BLOCK, MOST_BLOCK, NoRoom, Packet};
 pub use reading::read_packet;
 pub use writing::write_packet;

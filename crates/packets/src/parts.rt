@@ -1,15 +1,16 @@
 // What packets are made of.
 
-/// A block has at least as many bytes as the shortest packet.
-pub(crate) const LEAST_BLOCK: usize = 7;
+/// The bytes of the shortest block, which are those of the shortest packet.
+pub const LEAST_BLOCK: usize = 7;
 
-/// A block has at most 1440 bytes, and so many bits.
-pub(crate) const MOST_BLOCK: usize = 1440;
+/// The bytes of the longest block.
+pub const MOST_BLOCK: usize = 1440;
 
-pub(crate) const MOST_BITS: usize = 11520;
+// its bits
+pub(crate) const MOST_BITS: usize = 8 * MOST_BLOCK;
 
 /// What a header says beside the length.
-#[derive(Clone, Copy, PartialEq, Debug)]
+#[derive(Clone, Copy, PartialEq, Eq, Debug)]
 pub struct Header {
     /// Changes from one message to the next.
     pub toggle: bool,
@@ -27,9 +28,9 @@ pub struct Packet<'a> {
 }
 
 /// A packet that does not fit its block.
-#[derive(Clone, Copy, PartialEq, Debug)]
+#[derive(Clone, Copy, PartialEq, Eq, Debug)]
 pub struct NoRoom;
 
 /// A block that holds no packet.
-#[derive(Clone, Copy, PartialEq, Debug)]
+#[derive(Clone, Copy, PartialEq, Eq, Debug)]
 pub struct BadPacket;

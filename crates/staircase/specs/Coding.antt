@@ -1,4 +1,4 @@
--- The same by a code's value.
+-- The code, by the value that has its shape and exponents.
 use Rattle.std.specs.Prelude.{ℕ, ◌+◌, ◌*◌, Bool, List, vec_items}
 use Rattle.staircase.specs.declared.code.Staircase.{Staircase}
 use Rattle.staircase.specs.Staircase.{check_groups, word_of, ChecksHold, IsWord}

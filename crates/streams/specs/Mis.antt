@@ -1,4 +1,4 @@
--- The mode of a frame by its numbers, and the MIS record of 14 bits that states it.
+-- The MIS record of 14 bits, and what it states.
 use Rattle.std.specs.Prelude.{◌≡◌, ◌+◌, Bool, cond, ◌||◌, List, ◌++◌, length, refl, Ok, Err, Result, ◌==◌}
 use Rattle.bits.specs.Bits.{bits_of, field_at}
 use Rattle.modes.specs.declared.mode.Occupancy.{Occupancy}

@@ -1,4 +1,4 @@
--- The coding of the data stream by its number, and the TIS record of 63 bits that states it and the station.
+-- The TIS record of 63 bits, and what it states.
 use Rattle.std.specs.Prelude.{◌≡◌, ◌+◌, Bool, cond, List, ◌++◌, length, refl, Err, Result, ◌==◌}
 use Rattle.std.specs.Option.{ok_or}
 use Rattle.bits.specs.Bits.{bits_of, field_at}
