@@ -23,7 +23,14 @@ fn block_of(heap: Global, words: &[&str]) -> Result<Vec<u8>, Trouble> {
     let size = natural(size, MOST_BLOCK as u32)? as usize;
     let data = hex::decode(heap, data)?;
     let mut block = vec![in heap; 0u8; size]?;
-    write_packet(Packet { header, data: &data }, &mut block).map_err(|_| Trouble::NoRoom)?;
+    write_packet(
+        Packet {
+            header,
+            data: &data,
+        },
+        &mut block,
+    )
+    .map_err(|_| Trouble::NoRoom)?;
     Ok(block)
 }
 
