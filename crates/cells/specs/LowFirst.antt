@@ -15,7 +15,7 @@ length-low_bits zero v = refl
 length-low_bits (suc m) v = ap suc (length-low_bits m (v / 2))
 
 -- the bits of the number of some bits are those bits
-low_bits-low_first : (bits : List Bool) → low_bits (length bits) (low_first bits) ≡ bits
+pub low_bits-low_first : (bits : List Bool) → low_bits (length bits) (low_first bits) ≡ bits
 low_bits-low_first [] = refl
 low_bits-low_first (true ∷ bits) =
     let odd : (1 + 2 * low_first bits) % 2 ≡ 1 = omega arith in

@@ -1,9 +1,9 @@
 -- Laws of records: fields one after the other, and behind them their check of eight bits.
 use Rattle.std.proofs.Common.{◌≡◌, ℕ, ◌+◌, Bool, true, List, ◌++◌, length, take, drop, is_err, Ok, Err, Result, sym, refl, ap, ◌∙◌, arith}
 use borrow.Rule.Slice.PartMut.{put_mid}
-use Rattle.std.proofs.lemmas.List.{append-nil, drop_all, drop_at, length-append, length-drop, take-append-drop, take_at}
+use Rattle.std.proofs.lemmas.List.{append-nil, drop_all, drop_at, length-append, length-drop, take-append-drop, take_at, take_all}
 use Rattle.std.proofs.lemmas.Bool.{eq-eqb, false≢true, ne_eqb}
-use Rattle.bits.specs.Bits.{bits_of, number_of}
+use Rattle.bits.specs.Bits.{bits_of, field_at, number_of}
 use Rattle.bits.specs.Crc.{crc8_of}
 use Rattle.streams.specs.Records.{ReadsBits, record_read, with_check}
 use Rattle.streams.specs.declared.records.BadRecord.{BadRecord}
@@ -41,13 +41,19 @@ module _ {R : Type 0} (fields : R → List Bool) (stated : List Bool → Result 
   fields_sized : (x : R) → bits ≡ with_check (fields x) → length (fields x) ≡ size
   fields_sized x is = omega (arith, ap length is, length-with_check (fields x))
 
+  -- the check of such bits is all that stands behind their fields
+  check_field : field_at size 8 bits ≡ number_of (drop size bits)
+  check_field =
+      let short : length (drop size bits) ≤ 8 = simp length-drop (omega arith) in
+      ap number_of (take_all 8 (drop size bits) short)
+
   pub record_refused : (number_of (drop size bits) ≡ crc8_of (take size bits) → ⊥) → Err (record {}) ≡ record_read size stated bits
   unfolding record_read
-  record_refused wrong = rw (ne_eqb (number_of (drop size bits)) (crc8_of (take size bits)) wrong)
+  record_refused wrong = rw (check_field, ne_eqb (number_of (drop size bits)) (crc8_of (take size bits)) wrong)
 
   pub record_taken : number_of (drop size bits) ≡ crc8_of (take size bits) → stated (take size bits) ≡ record_read size stated bits
   unfolding record_read
-  record_taken right = rw (eq-eqb (number_of (drop size bits)) (crc8_of (take size bits)) right)
+  record_taken right = rw (check_field, eq-eqb (number_of (drop size bits)) (crc8_of (take size bits)) right)
 
   pub refused_exactly : (number_of (drop size bits) ≡ crc8_of (take size bits) → ⊥) → ReadsBits (λ (x : R). with_check (fields x)) bits (Err (record {}))
   refused_exactly wrong x = (

@@ -25,7 +25,8 @@ impl Record<14> for Mis {
 
     // A fill of 1 and the data constellation 3 are stated by no sender.
     fn read_fields(fields: &[bool]) -> Result<Self, BadRecord> {
-        if read_number(&fields[5..6]) == 1 {
+        let filled = read_number(&fields[5..6]) == 1;
+        if filled {
             return Err(BadRecord);
         }
         Ok(Mis {
