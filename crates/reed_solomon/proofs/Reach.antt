@@ -1,11 +1,12 @@
 -- What is within one place of the symbols given, by the values at the roots. Assumes nothing.
-use Rattle.std.proofs.Common.{◌≡◌, ℕ, Bool, true, false, get_or, zero, suc, ◌+◌, ◌-◌, ◌<◌, ◌≤◌, List, length, take, sym, refl, ap, ◌∙◌, subst, ⊎_elim, add-one, arith}
-use Rattle.std.proofs.lemmas.List.{length-take-le}
+use Rattle.std.proofs.Common.{◌≡◌, ℕ, Bool, true, false, get_or, zero, suc, ◌+◌, ◌-◌, ◌<◌, ◌≤◌, List, length, map, take, drop, sym, refl, ap, ap₂, ◌∙◌, subst, ⊎_elim, add-one, arith}
+use Rattle.std.proofs.lemmas.List.{length-take-le, length-drop, length-map, get_or-drop, get_or-map}
 use Rattle.codes.specs.Mending.{Within}
 use Rattle.codes.specs.Symbols.{differing}
 use Rattle.std.specs.Prelude.{MatchBool}
-use Rattle.std.specs.List.{AllWithin, HoldsAt, range_with_len}
-use Rattle.std.proofs.lemmas.List.FromFn.{length-range_with_len, get_or-range_with_len}
+use Rattle.std.specs.List.{AllWithin, HoldsAt, range_with_len, zip}
+use Rattle.std.proofs.lemmas.List.FromFn.{length-map-range_with_len, get_or-map-range_with_len}
+use Rattle.std.proofs.lemmas.Slice.Zip.{length-zip, get_or-zip}
 use Rattle.reed_solomon.specs.Field.{raised, times}
 use Rattle.reed_solomon.specs.Words.{Roots, Symbols, value_at, word_of, IsWord}
 use Rattle.reed_solomon.specs.Generators.{generator_of}
@@ -34,25 +35,49 @@ steps_from_roots : (r : ℕ) (cs : List ℕ) (p : ℕ) → Roots r cs → StepsB
 steps_from_roots r cs p roots j h l =
     roots (j + 1) (omega arith) (omega arith) ∙ sym (raised-zero p) ∙ ap (raised p) (sym (roots j h (omega arith)))
 
--- what `all` tells of the roots but the last, at each of which the next value is compared with the value times α^p
-pub steps_decided : (r p step : ℕ) (given : List ℕ) → Symbols given → step ≡ raised p 1 → (b : Bool)
-    → MatchBool b (AllWithin (λ j. value_at (j + 1) given ≡ times (value_at j given) step) (range_with_len 1 (r - 1)) 0 (length (range_with_len 1 (r - 1))))
-    ((k : ℕ) × (k < length (range_with_len 1 (r - 1))) × HoldsAt (λ j. value_at (j + 1) given ≡ times (value_at j given) step → ⊥) (range_with_len 1 (r - 1)) k)
-    → MatchBool b (StepsBy r given p) (StepsBy r given p → ⊥)
-steps_decided r p step given below e true all =
-    λ j h l.
-    let n = length-range_with_len 1 (r - 1) in
-    let at : get_or (range_with_len 1 (r - 1)) (j - 1) 0 ≡ j = get_or-range_with_len 1 (r - 1) (j - 1) 0 (omega arith) ∙ omega arith in
-    rw at at (all (j - 1) 0 (omega arith) (omega arith))
-    ∙ ap (times (value_at j given)) e ∙ times_power (value_at j given) p (value_at-lt j given below)
-steps_decided r p step given below e false some =
-    λ steps.
-    let n = length-range_with_len 1 (r - 1) in
-    let k = some.0 in
-    let at : get_or (range_with_len 1 (r - 1)) k 0 ≡ k + 1 = get_or-range_with_len 1 (r - 1) k 0 (omega (arith, some.1)) ∙ omega arith in
-    (rw at at (some.2 0))
-    (steps (k + 1) (omega arith) (omega (arith, some.1))
-    ∙ sym (times_power (value_at (k + 1) given) p (value_at-lt (k + 1) given below)) ∙ ap (times (value_at (k + 1) given)) (sym e))
+-- xs stands for the values at the roots, as u tells of each
+module _ {B : Type 0} (u : B → ℕ) (xs : List B) (r : ℕ) (given : List ℕ) (values : map u xs ≡ map (λ j. value_at j given) (range_with_len 1 r)) where
+  count_values : length xs ≡ r
+  count_values = sym (length-map xs u) ∙ ap length values ∙ length-map-range_with_len (λ j. value_at j given) 1 r
+
+  entry : (k : ℕ) (d : B) → k < r → u (get_or xs k d) ≡ value_at (k + 1) given
+  entry k d h =
+      sym (get_or-map u xs k d 0 (omega (arith, count_values))) ∙ ap (λ (ys : List ℕ). get_or ys k 0) values
+      ∙ get_or-map-range_with_len (λ j. value_at j given) 1 r k (k + 1) 0 h (omega arith)
+
+  pub value_from : (j : ℕ) (d : B) → 1 ≤ j → j ≤ r → u (get_or xs (j - 1) d) ≡ value_at j given
+  value_from j d h l = entry (j - 1) d (omega arith) ∙ ap (λ n. value_at n given) (omega arith)
+
+  abbrev pairs : List (B × B)
+  pairs = zip xs (drop 1 xs)
+
+  count_pairs : length pairs ≡ r - 1
+  count_pairs = length-zip xs (drop 1 xs) ∙ omega (arith, count_values, length-drop 1 xs)
+
+  pair : (k : ℕ) (d : B × B) → k < r - 1 → (u (get_or pairs k d).0 ≡ value_at (k + 1) given) × (u (get_or pairs k d).1 ≡ value_at (k + 1 + 1) given)
+  pair k d h =
+      let e = get_or-zip xs (drop 1 xs) k d (omega (arith, count_values)) (omega (arith, count_values, length-drop 1 xs)) in (
+        ap (λ q. u q.0) e ∙ entry k d.0 (omega arith),
+        ap (λ q. u q.1) e ∙ ap u (get_or-drop 1 xs k d.1) ∙ ap (λ n. u (get_or xs n d.1)) (omega arith) ∙ entry (k + 1) d.1 (omega arith),
+      )
+
+  -- what `all` tells of each value and the next, which is compared with the value times α^p
+  pub steps_decided : (p : ℕ) (step : B) → Symbols given → u step ≡ raised p 1 → (b : Bool)
+      → MatchBool b (AllWithin (λ q. u q.1 ≡ times (u q.0) (u step)) (zip xs (drop 1 xs)) 0 (length (zip xs (drop 1 xs))))
+      ((k : ℕ) × (k < length (zip xs (drop 1 xs))) × HoldsAt (λ q. u q.1 ≡ times (u q.0) (u step) → ⊥) (zip xs (drop 1 xs)) k)
+      → MatchBool b (StepsBy r given p) (StepsBy r given p → ⊥)
+  steps_decided p step below e true all =
+      λ j h l.
+      let both = pair (j - 1) (step, step) (omega arith) in
+      ap (λ n. value_at n given) (omega arith) ∙ sym both.1 ∙ all (j - 1) (step, step) (omega arith) (omega (arith, count_pairs))
+      ∙ ap₂ times (both.0 ∙ ap (λ n. value_at n given) (omega arith)) e ∙ times_power (value_at j given) p (value_at-lt j given below)
+  steps_decided p step below e false some =
+      λ steps.
+      let k = some.0 in
+      let both = pair k (step, step) (omega (arith, some.1, count_pairs)) in
+      some.2 (step, step)
+      (both.1 ∙ steps (k + 1) (omega arith) (omega (arith, some.1, count_pairs))
+      ∙ sym (ap₂ times both.0 e ∙ times_power (value_at (k + 1) given) p (value_at-lt (k + 1) given below)))
 
 module _ (r : ℕ) (given : List ℕ) (two : 2 ≤ r) (short : length given ≤ 127) (below : Symbols given) where
   -- the first two values tell the place

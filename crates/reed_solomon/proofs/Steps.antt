@@ -2,6 +2,8 @@
 use Rattle.std.proofs.Common.{◌≡◌, ℕ, zero, suc, ◌+◌, ◌<◌, ◌≤◌, List, [], ◌∷◌, ◌++◌, map, length, get_or, drop, sym, refl, ap, subst, ◌∙◌, add-one, arith}
 use lib.Bits.{bit_xor}
 use Rattle.std.proofs.lemmas.List.{get_or-drop, get_or-map, length-drop, length-append, length-map, at_drop_more, at_drop_all}
+use Rattle.std.specs.List.{range_with_len}
+use Rattle.std.proofs.lemmas.List.FromFn.{length-map-range_with_len, get_or-map-range_with_len}
 use Rattle.std.specs.Array.{IsFromFnResult, IsFromFnResultFrom}
 use Rattle.std.specs.Fn.{Called, Mut}
 use Rattle.std.proofs.lemmas.Grind.{same_number_lists}
@@ -68,18 +70,26 @@ pub divided_all : (g rest cs : List ℕ) (i : ℕ) → length cs ≤ i → divid
 unfolding divided
 divided_all g rest cs i h = at_drop_all (divided g rest) cs i h
 
--- what `from_fn` makes of a closure that answers the entry at each place and changes nothing that it captures
-module _ {F : Type 0} (g : Mut F (ℕ × Unit {0}) ℕ) (f : F) (at : ℕ → ℕ) (each : (i y : ℕ) (f' : F) → Called g f (i, tt) y f' → (y ≡ at i) × (f' ≡ f)) where
-  entries_from : (ys : List ℕ) (i n : ℕ) → IsFromFnResultFrom g f ys i n → (k : ℕ) → k < n → get_or ys (i + k) 0 ≡ at (i + k)
-  entries_from ys i zero r k h = absurd (omega arith)
-  entries_from ys i (suc n) r zero h =
+-- What `from_fn` makes of a closure that answers at each place what u tells, and changes nothing that it captures.
+module _ {F B : Type 0} (g : Mut F (ℕ × Unit {0}) B) (f : F) (u : B → ℕ) (at : ℕ → ℕ) (each : (i : ℕ) (y : B) (f' : F) → Called g f (i, tt) y f' → (u y ≡ at i) × (f' ≡ f)) where
+  entries_from : (ys : List B) (i n : ℕ) → IsFromFnResultFrom g f ys i n → (k : ℕ) (d : B) → k < n → u (get_or ys (i + k) d) ≡ at (i + k)
+  entries_from ys i zero r k d h = absurd (omega arith)
+  entries_from ys i (suc n) r zero d h =
       let here = each i r.1 r.0 r.3 in
       let z : i + 0 ≡ i = omega arith in
-      rw z (r.2.1 0 ∙ here.0)
-  entries_from ys i (suc n) r (suc k) h =
+      rw z (ap u (r.2.1 d) ∙ here.0)
+  entries_from ys i (suc n) r (suc k) d h =
       let here = each i r.1 r.0 r.3 in
       let e : i + suc k ≡ i + 1 + k = omega arith in
-      rw e (entries_from ys (i + 1) n (subst (λ (q : F). IsFromFnResultFrom g q ys (i + 1) n) here.1 r.4) k (omega arith))
+      rw e (entries_from ys (i + 1) n (subst (λ (q : F). IsFromFnResultFrom g q ys (i + 1) n) here.1 r.4) k d (omega arith))
 
-  pub entries_made : (ys : List ℕ) (n : ℕ) → IsFromFnResult g f ys n → (k : ℕ) → k < n → get_or ys k 0 ≡ at k
-  entries_made ys n r k h = let z : 0 + k ≡ k = omega arith in rw z at (entries_from ys 0 n r.each k h)
+  pub entries_made : (ys : List B) (n : ℕ) → IsFromFnResult g f ys n → (k : ℕ) (d : B) → k < n → u (get_or ys k d) ≡ at k
+  entries_made ys n r k d h = let z : 0 + k ≡ k = omega arith in rw z at (entries_from ys 0 n r.each k d h)
+
+  pub list_made : (ys : List B) (n a : ℕ) (of : ℕ → ℕ) → IsFromFnResult g f ys n → ((k : ℕ) → at k ≡ of (a + k)) → map u ys ≡ map of (range_with_len a n)
+  list_made [] n a of r e = ap (λ m. map of (range_with_len a m)) r.long
+  list_made (y ∷ ys) n a of r e =
+      let sized : length (map u (y ∷ ys)) ≡ n = length-map (y ∷ ys) u ∙ r.long in
+      same_number_lists (map u (y ∷ ys)) (map of (range_with_len a n)) (sized ∙ sym (length-map-range_with_len of a n))
+      (λ k h. get_or-map u (y ∷ ys) k y 0 (omega (arith, length-map (y ∷ ys) u))
+      ∙ entries_made (y ∷ ys) n r k y (omega (arith, sized)) ∙ e k ∙ sym (get_or-map-range_with_len of a n k (a + k) 0 (omega (arith, sized)) refl))
