@@ -1,5 +1,5 @@
 -- What reading a stream answers is what was sent. Assumes nothing.
-use Rattle.std.proofs.Common.{◌≡◌, ℕ, ◌*◌, ◌<◌, ◌≤◌, Bool, List, length, Ok, Err, Result, sym, refl, ap, ◌∙◌, subst, arith}
+use Rattle.std.proofs.Common.{◌≡◌, ℕ, ◌*◌, ◌<◌, ◌≤◌, Bool, List, length, Ok, Err, Result, sym, refl, ap, ◌∙◌, subst}
 use Rattle.codes.specs.Symbols.{differing, Below128}
 use Rattle.codes.specs.Mending.{Within}
 use Rattle.codes.specs.declared.words.BeyondReach.{BeyondReach}
@@ -130,8 +130,7 @@ module _ (k n : ℕ) (word : List ℕ → List ℕ) (distance reach : ℕ) (poin
     bad_sent m e got f exactly sent near moved close =
         let both = read_as_sent m e got (Err f) exactly sent near moved close in
         let bad = both.0 in
-        let z : ◌≡◌ {A = ℕ} 0 1 = cc in
-        absurd (omega arith)
+        cc
 
   -- an answer by what was found is right, and answers what was sent
   pub right : (cells : List Cell) (answer : Result (Reading R) StreamFault) → Found k n word reach decided record_bits read_bits cells answer

@@ -2,6 +2,7 @@
 use Rattle.std.proofs.Common.{◌≡◌, ℕ, ◌+◌, ◌-◌, ◌*◌, ◌≤◌, Bool, true, false, eqb, List, ◌++◌, length, take, drop, replicate, Some, None, Option, sym, refl, ap, ◌∙◌, subst, inl, inr, arith, lit<, take-add}
 use Rattle.std.proofs.lemmas.List.{append_assoc, drop_at, length-append, length-drop, length-replicate, length-take, length-take-le, take_all, take-append-drop, take_at}
 use Rattle.std.proofs.lemmas.Bool.{both_ways, cases_Bool, eq-eqb, eqb-true, le-ltb, ltb-false, not-false, not_from_true, or_from, or_parts}
+use Rattle.std.proofs.lemmas.Option.{none-some, same_Some}
 use Rattle.bits.specs.Bits.{AllBelow, bits_of, cut, field_at, spread}
 use Rattle.bits.specs.Crc.{crc16_of}
 use Rattle.bits.proofs.Bits.{cut-spread, cut_below, field_below, field_bits, length-bits_of, length-spread, length_cut, number_of-bits_of, spread_cut}
@@ -210,12 +211,6 @@ module _ (size : ℕ) (c : Content) (fits : Fits size c) where
       let good : is_bad block_made ≡ false = or_from _ _ right_size (good_not_bad _ _ _ good_of) in
       rw good (ap Some same-content)
 
-never_some : (c : Content) → None ≡ Some c → ⊥
-never_some c e = let z : ◌≡◌ {A = ℕ} 0 1 = cc in omega arith
-
-same_from_some : {X : Type 0} (a b : X) → Some a ≡ Some b → a ≡ b
-same_from_some a b e = cc
-
 -- a block that is bad holds nothing
 pub bad_none : (block : List ℕ) → is_bad block ≡ true → packet_in block ≡ None
 unfolding packet_in
@@ -228,7 +223,7 @@ good_some block e = rw e
 -- a block of a size that no block has is read right
 pub size_reads : (block : List ℕ) → wrong_size (length block) ≡ true → Reads block None
 size_reads block e c = (
-  λ s. absurd (never_some c s),
+  λ s. absurd (none-some c s),
   λ fits same. absurd (both_ways _ (or_from _ _ (le-ltb _ _ fits.least) (le-ltb _ _ fits.most)) e),
 )
 
@@ -240,10 +235,10 @@ exact block octets size c =
     let most : length block ≤ 1440 = ltb-false _ _ bounds.1 in (
       λ e.
           elim (cases_Bool (is_bad block)) [
-            | inl bad ↦ absurd (never_some c (sym (bad_none block bad) ∙ e))
+            | inl bad ↦ absurd (none-some c (sym (bad_none block bad) ∙ e))
             | inr good ↦
                 let g = good_from _ _ _ (or_parts _ _ good).1 in
-                let same = same_from_some (stated (fields_in (spread 8 block)) block) c (sym (good_some block good) ∙ e) in (
+                let same = same_Some (stated (fields_in (spread 8 block)) block) c (sym (good_some block good) ∙ e) in (
                   subst (λ d. Fits (length block) d) same (good_fits block octets g least most),
                   subst (λ d. block ≡ block_of (length block) d) same (good_block block octets g),
                 )

@@ -110,6 +110,7 @@ impl<const ROOTS: usize, const MESSAGE: usize, const WORD: usize> ReedSolomon<
         let values = Values::<ROOTS>::of(given);
         let first = values.at(1);
         if first.number() == 0 {
+            // the others are 0 too where they do not change
             return if values.steps_by(0) {
                 Ok(None)
             } else {

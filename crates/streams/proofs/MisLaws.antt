@@ -2,6 +2,7 @@
 use Rattle.std.proofs.Common.{◌≡◌, ℕ, ◌<◌, Bool, false, ◌||◌, eqb, List, [], ◌∷◌, ◌++◌, length, take, drop, Ok, Err, Result, sym, refl, ap, ◌∙◌, inl, inr, arith, lit<}
 use Rattle.std.proofs.lemmas.Bool.{cases_Bool, eqb-false, eqb-true, ne_eqb, or_parts}
 use Rattle.std.proofs.lemmas.List.{take_all}
+use Rattle.streams.proofs.RecordLaws.{fields_read}
 use Rattle.bits.specs.Bits.{bits_of, field_at}
 use Rattle.modes.specs.Modes.{occupancy_number, tis_number, data_number, numbered, occupancy_of, tis_of, data_of}
 use Rattle.modes.specs.declared.unknown.UnknownNumber.{UnknownNumber}
@@ -20,7 +21,7 @@ use Rattle.std.proofs.Common.{take-add}
 
 -- what has a number is found by it
 numbered_is : {X : Type 0} (number : X → ℕ) (xs : List X) (n : ℕ) (x : X) → numbered number xs n ≡ Ok x → n ≡ number x
-numbered_is number [] n x e = let z : ◌≡◌ {A = ℕ} 0 1 = cc in absurd (omega arith)
+numbered_is number [] n x e = cc
 numbered_is {X = X} number (y ∷ ys) n x e =
     elim (cases_Bool (eqb n (number y))) [
       | inl t ↦ let f : ◌≡◌ {A = Result X UnknownNumber} (Ok y) (Ok x) = rw t at e in let same : y ≡ x = cc in eqb-true n (number y) t ∙ ap number same
@@ -77,9 +78,9 @@ module _ (m : Mis) where
 -- the parts of a mode that was made
 mode_of_parts : (x : Result Occupancy UnknownNumber) (y : Result TisConstellation UnknownNumber) (z : Result DataConstellation UnknownNumber) (m : Mis) → mode_of x y z ≡ Ok m →
     (x ≡ Ok m.occupancy) × (y ≡ Ok m.tis) × (z ≡ Ok m.«data»)
-mode_of_parts (Err f) y z m e = let n : ◌≡◌ {A = ℕ} 0 1 = cc in absurd (omega arith)
-mode_of_parts (Ok o) (Err f) z m e = let n : ◌≡◌ {A = ℕ} 0 1 = cc in absurd (omega arith)
-mode_of_parts (Ok o) (Ok t) (Err f) m e = let n : ◌≡◌ {A = ℕ} 0 1 = cc in absurd (omega arith)
+mode_of_parts (Err f) y z m e = cc
+mode_of_parts (Ok o) (Err f) z m e = cc
+mode_of_parts (Ok o) (Ok t) (Err f) m e = cc
 mode_of_parts (Ok o) (Ok t) (Ok d) m e =
     let made : record { occupancy = o; tis = t; «data» = d } ≡ m = cc in
     (ap (λ k. Ok k.occupancy) made, ap (λ k. Ok k.tis) made, ap (λ k. Ok k.«data») made)
@@ -90,7 +91,7 @@ module _ (bits : List Bool) (size : length bits ≡ 6) (m : Mis) (e : mis_stated
   unfolding mis_stated
   stated_good =
       elim (cases_Bool (eqb (field_at 5 1 bits) 1 || eqb (field_at 3 2 bits) 3)) [
-        | inl t ↦ let f : ◌≡◌ {A = Result Mis BadRecord} (Err (record {})) (Ok m) = rw t at e in let n : ◌≡◌ {A = ℕ} 0 1 = cc in absurd (omega arith)
+        | inl t ↦ let f : ◌≡◌ {A = Result Mis BadRecord} (Err (record {})) (Ok m) = rw t at e in cc
         | inr t ↦ t
       ]
 
@@ -123,7 +124,7 @@ module _ (bits : List Bool) (size : length bits ≡ 6) (m : Mis) (e : mis_stated
 
 -- the answer that is what the fields state is right
 pub mis_reads : (bits : List Bool) (r : Result Mis BadRecord) → length bits ≡ 6 → r ≡ mis_stated bits → ReadsBits mis_fields bits r
-mis_reads bits r size e m = (λ is. stated_fields bits size m (sym e ∙ is), λ is. e ∙ ap mis_stated is ∙ mis_stated_back m)
+mis_reads bits r size = fields_read mis_fields mis_stated bits r (stated_fields bits size) mis_stated_back
 
 -- what is stated by bits, by the parts that they name
 pub stated_filled : (bits : List Bool) → field_at 5 1 bits ≡ 1 → Err (record {}) ≡ mis_stated bits

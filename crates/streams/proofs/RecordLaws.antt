@@ -57,7 +57,7 @@ module _ {R : Type 0} (fields : R → List Bool) (stated : List Bool → Result 
 
   pub refused_exactly : (number_of (drop size bits) ≡ crc8_of (take size bits) → ⊥) → ReadsBits (λ (x : R). with_check (fields x)) bits (Err (record {}))
   refused_exactly wrong x = (
-    λ is. let z : ◌≡◌ {A = ℕ} 0 1 = cc in absurd (omega arith),
+    λ is. cc,
     λ is.
         let sized = fields_sized x is in
         absurd (wrong (ap (λ l. number_of (drop size l)) is ∙ check_back (fields x) size sized ∙ ap crc8_of (sym (fields_front (fields x) size sized) ∙ ap (take size) (sym is)))),
@@ -98,3 +98,8 @@ told_by_fields {R = R} fields stated back a b e =
 pub error_is : {R : Type 0} (r : Result R BadRecord) → is_err r ≡ true → r ≡ Err (record {})
 error_is (Ok t) e = absurd (false≢true e)
 error_is (Err b) e = refl
+
+-- an answer that is what fields state is right, when what they state tells the fields
+pub fields_read : {R : Type 0} (fields : R → List Bool) (stated : List Bool → Result R BadRecord) (bits : List Bool) (r : Result R BadRecord) →
+    ((x : R) → stated bits ≡ Ok x → bits ≡ fields x) → ((x : R) → stated (fields x) ≡ Ok x) → r ≡ stated bits → ReadsBits fields bits r
+fields_read fields stated bits r forth back e x = (λ is. forth x (sym e ∙ is), λ is. e ∙ ap stated is ∙ back x)

@@ -17,6 +17,7 @@ use Rattle.streams.specs.declared.records.BadRecord.{BadRecord}
 use Rattle.modes.specs.declared.station.Station.{Station}
 use Rattle.modes.specs.declared.station.Tis.{Tis}
 use Rattle.std.proofs.lemmas.List.{take_all}
+use Rattle.streams.proofs.RecordLaws.{fields_read}
 use Rattle.bits.proofs.Bits.{field_back, field_below, number_of-bits_of, part_length}
 use Rattle.std.proofs.Common.{take-add}
 use Rattle.streams.proofs.MisLaws.{data_found, occupancy_found}
@@ -28,14 +29,14 @@ checked_is false make x h same = absurd (false≢true h)
 
 checked_parts : {X : Type 0} (test : Bool) (make : test ≡ true → X) (x : X) → checked test make ≡ Some x → (e : test ≡ true) × (make e ≡ x)
 checked_parts true make x h = let same : make refl ≡ x = cc in (refl, same)
-checked_parts false make x h = let z : ◌≡◌ {A = ℕ} 0 1 = cc in absurd (omega arith)
+checked_parts false make x h = cc
 
 checked_not : {X : Type 0} (test : Bool) (make : test ≡ true → X) → test ≡ false → checked test make ≡ None
 checked_not true make h = absurd (false≢true (sym h))
 checked_not false make h = refl
 
 ok_or_some : {X E : Type 0} (o : Option X) (x : X) (e : E) → ok_or o e ≡ Ok x → o ≡ Some x
-ok_or_some None x e h = let z : ◌≡◌ {A = ℕ} 0 1 = cc in absurd (omega arith)
+ok_or_some None x e h = cc
 ok_or_some (Some y) x e h = cc
 
 rate_below : (r : Rate) → rate_number r < 2
@@ -77,7 +78,7 @@ station_parts n h m d s e =
 
 -- the parts of a TIS that was made
 tis_parts : (k : ℕ) (o : Option Station) (t : Tis) → tis_made k o ≡ Some t → (k ≡ t.coding) × (o ≡ Some t.station)
-tis_parts k None t e = let z : ◌≡◌ {A = ℕ} 0 1 = cc in absurd (omega arith)
+tis_parts k None t e = cc
 tis_parts k (Some s) t e =
     let made = (checked_parts (ltb k 32) (λ b. record { coding = k; station = s; below = ltb-true k 32 b }) t e).1 in
     (ap (λ (x : Tis). x.coding) made, ap (λ (x : Tis). Some x.station) made)
@@ -127,7 +128,7 @@ module _ (bits : List Bool) (size : length bits ≡ 55) (t : Tis) (e : tis_state
   stated_good =
       elim (cases_Bool (eqb (field_at 52 3 bits) 0)) [
         | inl b ↦ b
-        | inr b ↦ let f : ◌≡◌ {A = Result Tis BadRecord} (Err (record {})) (Ok t) = rw b at e in let n : ◌≡◌ {A = ℕ} 0 1 = cc in absurd (omega arith)
+        | inr b ↦ let f : ◌≡◌ {A = Result Tis BadRecord} (Err (record {})) (Ok t) = rw b at e in cc
       ]
 
   stated_made : tis_made (field_at 0 5 bits) (station_of (field_at 5 30 bits) (field_at 35 5 bits) (field_at 40 6 bits) (field_at 46 6 bits)) ≡ Some t
@@ -159,7 +160,7 @@ module _ (bits : List Bool) (size : length bits ≡ 55) (t : Tis) (e : tis_state
 
 -- the answer that is what the fields state is right
 pub tis_reads : (bits : List Bool) (r : Result Tis BadRecord) → length bits ≡ 55 → r ≡ tis_stated bits → ReadsBits tis_fields bits r
-tis_reads bits r size e t = (λ is. stated_fields bits size t (sym e ∙ is), λ is. e ∙ ap tis_stated is ∙ tis_stated_back t)
+tis_reads bits r size = fields_read tis_fields tis_stated bits r (stated_fields bits size) tis_stated_back
 
 -- reserved bits that are not zero state nothing
 pub stated_reserved : (bits : List Bool) → (field_at 52 3 bits ≡ 0 → ⊥) → Err (record {}) ≡ tis_stated bits
