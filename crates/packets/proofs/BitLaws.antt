@@ -19,7 +19,7 @@ length-packet_bits c =
 -- the fields of a content's header
 abbrev pub fields_of : Content → ℕ → ℕ → Fields
 fields_of c total id =
-    record { total = total; toggle = c.toggle; first = eqb c.id 0; last = c.last; id = id; indicator = false; reserved = 0 }
+    record { total = total; header = record { toggle = c.toggle; last = c.last; id = id }; first = eqb c.id 0; indicator = false; reserved = 0 }
 
 pub fields_of_lem : (c : Content) (rest : List Bool) → packet_length c < 4096 → c.id < 1024 → fields_in (header_bits c ++ rest) ≡ fields_of c (packet_length c) c.id
 unfolding header_bits bits_of number_of fields_in
@@ -28,14 +28,14 @@ fields_of_lem c rest short small =
     ap (λ n. fields_of c (packet_length c) n) (number_of-bits_of 10 c.id small)
 
 -- fields that are right are those of the content that they state
-pub fields_back : (f : Fields) (block : List ℕ) (n : ℕ) → f.total ≡ n → f.first ≡ eqb f.id 0 → f.indicator ≡ false → f.reserved ≡ 0 →
-    f ≡ fields_of (stated f block) n f.id
+pub fields_back : (f : Fields) (block : List ℕ) (n : ℕ) → f.total ≡ n → f.first ≡ eqb f.header.id 0 → f.indicator ≡ false → f.reserved ≡ 0 →
+    f ≡ fields_of (stated f block) n f.header.id
 fields_back f block n total first indicator reserved =
     let made : ℕ → Bool → Bool → ℕ → Fields =
-    λ t a i r. record { total = t; toggle = f.toggle; first = a; last = f.last; id = f.id; indicator = i; reserved = r } in
+    λ t a i r. record { total = t; header = f.header; first = a; indicator = i; reserved = r } in
     ap (λ t. made t f.first f.indicator f.reserved) total ∙
     (ap (λ a. made n a f.indicator f.reserved) first ∙
-    (ap (λ i. made n (eqb f.id 0) i f.reserved) indicator ∙ ap (λ r. made n (eqb f.id 0) false r) reserved))
+    (ap (λ i. made n (eqb f.header.id 0) i f.reserved) indicator ∙ ap (λ r. made n (eqb f.header.id 0) false r) reserved))
 
 one_zero : false ∷ [] ≡ bits_of 1 0
 unfolding bits_of
@@ -46,12 +46,12 @@ pub header_back : (bits : List Bool) (c : Content) → 32 ≤ length bits → fi
 unfolding header_bits fields_in
 header_back bits c h e =
     let front : bits_of 12 (packet_length c) ≡ take 12 bits = ap (λ f. bits_of 12 f.total) (sym e) ∙ field_bits 0 12 bits (omega arith) in
-    let ident : bits_of 10 c.id ≡ take 10 (drop 15 bits) = ap (λ f. bits_of 10 f.id) (sym e) ∙ field_bits 15 10 bits (omega arith) in
+    let ident : bits_of 10 c.id ≡ take 10 (drop 15 bits) = ap (λ f. bits_of 10 f.header.id) (sym e) ∙ field_bits 15 10 bits (omega arith) in
     let zeros : bits_of 6 0 ≡ take 6 (drop 26 bits) = ap (λ f. bits_of 6 f.reserved) (sym e) ∙ field_bits 26 6 bits (omega arith) in
     let three : get_or bits 12 false ∷ get_or bits 13 false ∷ get_or bits 14 false ∷ [] ≡ take 3 (drop 12 bits) =
     rw (drop_more bits 12 false (omega arith), drop_more bits 13 false (omega arith), drop_more bits 14 false (omega arith)) in
     let flags : c.toggle ∷ eqb c.id 0 ∷ c.last ∷ [] ≡ take 3 (drop 12 bits) =
-    ap (λ f. f.toggle ∷ f.first ∷ f.last ∷ []) (sym e) ∙ three in
+    ap (λ f. f.header.toggle ∷ f.first ∷ f.header.last ∷ []) (sym e) ∙ three in
     let one : get_or bits 25 false ∷ [] ≡ take 1 (drop 25 bits) = rw (drop_more bits 25 false (omega arith)) in
     let mark : bits_of 1 0 ≡ take 1 (drop 25 bits) = sym one_zero ∙ (ap (λ f. f.indicator ∷ []) (sym e) ∙ one) in
     let to15 : take 15 bits ≡ take 12 bits ++ take 3 (drop 12 bits) = take-add 12 3 bits in

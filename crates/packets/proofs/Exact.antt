@@ -19,7 +19,7 @@ pub record Good (f : Fields) (block : List ℕ) (bits : List Bool) : Type 0 wher
   pub check : field_at (8 * (f.total - 2)) 16 bits ≡ crc16_of (take (8 * (f.total - 2)) bits)
   pub indicator : f.indicator ≡ false
   pub reserved : f.reserved ≡ 0
-  pub first : f.first ≡ eqb f.id 0
+  pub first : f.first ≡ eqb f.header.id 0
   pub filler : all_zero (drop f.total block) ≡ true
 
 pub good_from : (f : Fields) (block : List ℕ) (bits : List Bool) → bad_block f block bits ≡ false → Good f block bits

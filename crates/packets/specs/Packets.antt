@@ -71,10 +71,8 @@ unfoldable pub fields_in : List Bool → Fields
 fields_in bits =
     record {
       total = field_at 0 12 bits;
-      toggle = slice_index_or bits 12 false;
+      header = record { toggle = slice_index_or bits 12 false; last = slice_index_or bits 14 false; id = field_at 15 10 bits };
       first = slice_index_or bits 13 false;
-      last = slice_index_or bits 14 false;
-      id = field_at 15 10 bits;
       indicator = slice_index_or bits 25 false;
       reserved = field_at 26 6 bits;
     }
@@ -101,7 +99,7 @@ wrong_reserved f = f.indicator || not (f.reserved == 0)
 
 -- first is 1 and the id is not 0, or first is 0 and the id is 0
 abbrev pub wrong_first : Fields → Bool
-wrong_first f = f.first ⊕ nat_eq f.id 0
+wrong_first f = f.first ⊕ nat_eq f.header.id 0
 
 -- a byte behind the packet is not zero
 abbrev pub wrong_filler : Fields → List ℕ → Bool
@@ -118,7 +116,7 @@ is_bad block = wrong_size (length block) || bad_block (fields_in (spread 8 block
 
 -- the content that fields state of a block: the data stand between header and check
 abbrev pub stated : Fields → List ℕ → Content
-stated f block = record { toggle = f.toggle; last = f.last; id = f.id; bytes = take (f.total - 6) (drop 4 block) }
+stated f block = content_of f.header (take (f.total - 6) (drop 4 block))
 
 -- the content of the packet that a block holds, if it holds one
 unfoldable pub packet_in : List ℕ → Option Content

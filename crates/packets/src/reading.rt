@@ -7,15 +7,13 @@ ghost use Rattle.bits.specs.Bits.{spread};
 use crate::parts::{BadPacket, Header, LEAST_BLOCK, MOST_BITS, MOST_BLOCK, Packet};
 use bits::{crc16, read_number, spread};
 
-// A header as it stands in a block, right or wrong.
+// What the header of a block says, right or wrong.
 #[derive(Clone, Copy)]
 struct Fields {
     // the length of the packet
     total: usize,
-    toggle: bool,
+    header: Header,
     first: bool,
-    last: bool,
-    id: u16,
     // the fill indicator
     indicator: bool,
     reserved: u32,
@@ -29,10 +27,12 @@ impl Fields {
     {
         Fields {
             total: read_number(&bits[0..12]) as usize,
-            toggle: bits[12],
+            header: Header {
+                toggle: bits[12],
+                last: bits[14],
+                id: read_number(&bits[15..25]) as u16,
+            },
             first: bits[13],
-            last: bits[14],
-            id: read_number(&bits[15..25]) as u16,
             indicator: bits[25],
             reserved: read_number(&bits[26..32]),
         }
@@ -62,7 +62,7 @@ impl Fields {
     fn wrong_first(self) -> bool
         ensures { result ≡ wrong_first self }
     {
-        self.first ^ (self.id == 0)
+        self.first ^ (self.header.id == 0)
     }
 
     fn wrong_filler(self, block: &[u8]) -> bool
@@ -108,13 +108,8 @@ pub fn read_packet(block: &[u8]) -> Result<Packet<'_>, BadPacket>
     if fields.is_bad(block, bits) {
         return Err(BadPacket);
     }
-    let header = Header {
-        toggle: fields.toggle,
-        last: fields.last,
-        id: fields.id,
-    };
     Ok(Packet {
-        header,
+        header: fields.header,
         data: &block[4..fields.total - 2],
     })
 }

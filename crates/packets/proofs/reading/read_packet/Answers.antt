@@ -35,6 +35,6 @@ returns c =
     let fields : f ≡ fields_in (spread 8 c.args.block.now) = c.of-fields.ensures ∙ ap fields_in c.spread.ensures in
     let six : f.total - 2 - 4 ≡ f.total - 6 = omega arith in
     let found =
-    ap (λ n. Some (content_of (record { toggle = f.toggle; last = f.last; id = f.id }) (take n (drop 4 block)))) six ∙
+    ap (λ n. Some (content_of f.header (take n (drop 4 block)))) six ∙
     (ap (λ g. Some (stated g block)) fields ∙ sym (good_some block (or_from _ _ right good))) in
     record { value = found; exactly = reads_from block _ (below_from 256 block (λ i _. (c.type_inv.block i).fits)) right found }
