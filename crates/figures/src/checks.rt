@@ -1,5 +1,8 @@
-// Check values of the CRCs that catalogues print, those of the ASCII digits 1 to 9; and the longest message of many pieces.
+// Check values of the CRCs that catalogues print, those of the ASCII digits 1 to 9; the longest message of many pieces;
+// and a line-up of seven bytes with its clone.
 use bits::{crc8, crc16, spread};
+use lineup::asked::Asked;
+use lineup::line_up::LineUp;
 use messages::Sender;
 use std::test::Fail;
 
@@ -26,5 +29,32 @@ fn a_thousand_and_twenty_four_pieces(rt: HostRuntime) -> Result<(), Fail> {
         sender.load(&message.as_slice()[0..1]).map_err(u8::from),
         Err(11)
     );
+    Ok(())
+}
+
+// 14 cells for the MIS and 51 for the TIS at 16-QAM, and a code of 56 bits and 56 checks on 56 of the others.
+#[test]
+fn a_clone_holds_the_same(rt: HostRuntime) -> Result<(), Fail> {
+    let mut plan = [5; 345];
+    plan[..14].fill(3);
+    plan[14..65].fill(4);
+    let mut line_up = LineUp::new(rt.alloc())?;
+    let done = line_up.fill(Asked {
+        occupancy: 0,
+        tis: 1,
+        data: 0,
+        rate: 0,
+        plan: &plan,
+        lift: 56,
+        rows: 1,
+        columns: 1,
+        exponents: &[0],
+    });
+    assert_eq!(rt; done, Ok(()));
+    let clone = line_up.clone()?;
+    assert_eq!(rt; clone.block_length(), 7);
+    assert!(rt; clone.plan() == line_up.plan());
+    let code = clone.code().clone()?;
+    assert!(rt; code.checks_hold(&[false; 112]));
     Ok(())
 }
