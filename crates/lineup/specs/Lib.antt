@@ -1,4 +1,6 @@
 pub mod Judging
 pub mod Kinds
+pub mod Layouts
+pub mod Stated
 pub mod LineUps
 pub mod Views

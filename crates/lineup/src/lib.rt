@@ -6,6 +6,7 @@ mod block;
 mod cells;
 mod filling;
 pub mod kind;
+pub mod layout;
 pub mod line_up;
 pub mod mode;
 mod reading;

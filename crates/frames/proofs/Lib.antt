@@ -1,0 +1,2 @@
+pub mod DataWords
+pub mod OnPlans

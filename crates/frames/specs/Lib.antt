@@ -1,0 +1,5 @@
+pub mod Laying
+pub mod Words
+pub mod Frames
+pub mod Reading
+pub mod Faults

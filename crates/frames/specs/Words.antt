@@ -1,0 +1,32 @@
+-- Data words that follow one another: their messages have k bits each, and they n.
+use Rattle.std.specs.Prelude.{◌≡◌, ℕ, zero, suc, ◌*◌, ◌<◌, ◌≤◌, Bool, List, [], ◌++◌, take, drop, Ok, Err, Result}
+use Rattle.codes.specs.Symbols.{bit_number, differing}
+use Rattle.codes.specs.Mending.{Within}
+
+-- the words of the first `count` messages
+unfoldable pub coded : (List Bool → List Bool) → (k count : ℕ) → List Bool → List Bool
+coded word k zero messages = []
+coded word k (suc count) messages = word (take k messages) ++ coded word k count (drop k messages)
+
+-- the part number i of bits, where each has w
+abbrev pub part : (w i : ℕ) → List Bool → List Bool
+part w i bits = take w (drop (w * i) bits)
+
+-- in how many places the word number i of some bits differs from that of others
+abbrev pub wrong_bits : (n i : ℕ) → List Bool → List Bool → ℕ
+wrong_bits n i sent bits = differing bit_number (part n i sent) (part n i bits)
+
+module _ (word : List Bool → List Bool) (reach k n : ℕ) where
+  -- a message is within reach of some bits
+  abbrev pub WordWithin : List Bool → List Bool → Type 0
+  WordWithin bits message = (e : ℕ) × Within bit_number k word reach bits message e
+
+  -- each of the first `count` messages is within reach of its word's bits
+  unfoldable pub WordsWithin : ℕ → (bits messages : List Bool) → Type 0
+  WordsWithin zero bits messages = Unit {0}
+  WordsWithin (suc count) bits messages =
+      WordWithin (take n bits) (take k messages) × WordsWithin count (drop n bits) (drop k messages)
+
+  -- no message is within reach of the word number i
+  abbrev pub WordLost : ℕ → List Bool → Type 0
+  WordLost i bits = (message : List Bool) (e : ℕ) → Within bit_number k word reach (part n i bits) message e → ⊥

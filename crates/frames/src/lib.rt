@@ -1,0 +1,13 @@
+// Frames: a mode, a station and a packet on all cells of a plan, and from its cells back.
+#![tactic(auto)]
+
+mod channel;
+mod fault;
+mod laying;
+mod received;
+mod words;
+mod writing;
+
+pub use channel::Channel;
+pub use fault::FrameFault;
+pub use received::ReceivedCells;

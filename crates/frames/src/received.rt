@@ -1,0 +1,60 @@
+// The cells of a received frame, by the plan.
+ghost use Rattle.std.specs.Prelude.{◌≡◌, ◌≢◌, ◌*◌, ◌<◌, ◌≤◌, length, take, MatchOption};
+ghost use Rattle.frames.specs.Laying.{cell_at, cells_in, of_kind, picked};
+ghost use Rattle.lineup.specs.Layouts.{kind_count};
+
+use cells::Cell;
+use lineup::kind::CellKind;
+
+// What each cell carries, and two numbers for each.
+#[derive(Clone, Copy)]
+pub struct ReceivedCells<'a> {
+    plan: &'a [CellKind],
+    numbers: &'a [i16],
+    ghost pairs: { length numbers.now ≡ 2 * length plan.now },
+}
+
+// Whether a cell's kind is the one wanted.
+fn is_of(kind: CellKind, wanted: CellKind) -> bool
+    ensures { result ≡ of_kind wanted kind }
+{
+    u8::from(kind) == u8::from(wanted)
+}
+
+impl<'a> ReceivedCells<'a> {
+    // The cells of a plan, where there are two numbers for each.
+    pub fn new(plan: &'a [CellKind], numbers: &'a [i16]) -> Option<Self>
+        ensures { MatchOption result (length numbers.now ≢ 2 * length plan.now) (λ r. (r.plan.now ≡ plan.now) × (r.numbers.now ≡ numbers.now)) }
+    {
+        if numbers.len() == 2 * plan.len() {
+            Some(ReceivedCells { plan, numbers })
+        } else {
+            None
+        }
+    }
+
+    // The cell at a place.
+    fn cell(self, i: usize) -> Cell
+        requires { i < length self.plan.now }
+        ensures { result ≡ cell_at self.entry.numbers.now i }
+    {
+        Cell {
+            real: self.numbers[2 * i],
+            imaginary: self.numbers[2 * i + 1],
+        }
+    }
+
+    // Copies the first cells of a kind.
+    pub(crate) fn gather(self, wanted: CellKind, cells: &mut [Cell])
+        requires { length cells.old ≤ kind_count wanted self.plan.now }
+        ensures { cells.new ≡ take (length cells.old) (picked wanted self.entry.plan.now (cells_in self.entry.numbers.now)) }
+    {
+        let mut found = 0;
+        for (i, kind) in self.plan.iter().enumerate() {
+            if is_of(*kind, wanted) && found < cells.len() {
+                cells[found] = self.cell(i);
+                found += 1;
+            }
+        }
+    }
+}

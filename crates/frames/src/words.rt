@@ -1,0 +1,51 @@
+// Data words that follow one another.
+ghost use Rattle.std.specs.Prelude.{◌≡◌, ◌+◌, ◌-◌, ◌*◌, ◌<◌, ◌≤◌, length, MatchResult};
+ghost use Rattle.frames.specs.Words.{coded, WordLost, WordsWithin};
+
+use codes::words::{MendingCode, SendingCode};
+
+// Writes the words of so many messages.
+pub(crate) fn encode_words<D: SendingCode<Symbol = bool>>(
+    code: &D,
+    count: usize,
+    messages: &[bool],
+    words: &mut [bool],
+)
+    requires messages { length messages.now ≡ count * D.message_length code.now }
+    requires words { length words.old ≡ count * D.word_length code.now }
+    ensures { words.new ≡ coded (D.word code.now) (D.message_length code.now) count messages.now }
+{
+    if count == 0 {
+        return;
+    }
+    let (message, more) = messages.split_at(code.message_length());
+    let (word, rest) = words.split_at_mut(code.word_length());
+    code.encode(message, word);
+    encode_words(code, count - 1, more, rest);
+}
+
+// Mends the messages of so many words, or answers the number of the first one that is beyond reach.
+pub(crate) fn mend_words<D: MendingCode<Symbol = bool>>(
+    code: &D,
+    count: usize,
+    words: &[bool],
+    messages: &mut [bool],
+) -> Result<(), usize>
+    requires words { length words.now ≡ count * D.SendingCode.word_length code.now }
+    requires messages { length messages.old ≡ count * D.SendingCode.message_length code.now }
+    ensures size { length messages.new ≡ length messages.old }
+    ensures answer { MatchResult result (λ _. WordsWithin (D.SendingCode.word code.now) (D.MendingCode.reach code.now) (D.SendingCode.message_length code.now) (D.SendingCode.word_length code.now) count words.now messages.new) (λ i. (i < count) × WordLost (D.SendingCode.word code.now) (D.MendingCode.reach code.now) (D.SendingCode.message_length code.now) (D.SendingCode.word_length code.now) i words.now) }
+{
+    if count == 0 {
+        return Ok(());
+    }
+    let (word, rest) = words.split_at(code.word_length());
+    let (message, more) = messages.split_at_mut(code.message_length());
+    let Ok(_) = code.mend(word, message) else {
+        return Err(0);
+    };
+    match mend_words(code, count - 1, rest, more) {
+        Ok(()) => Ok(()),
+        Err(word) => Err(word + 1),
+    }
+}

@@ -1,0 +1,52 @@
+// What a filled line-up is to a frame: its mode, what each cell carries, and the code of its data.
+ghost use Rattle.std.specs.Prelude.{◌≡◌, ◌≤◌};
+ghost use Rattle.lineup.specs.Layouts.{Roomy, block_length_of, words_of};
+
+use crate::kind::CellKind;
+use crate::mode::Mode;
+use crate::shape::data_words;
+use codes::words::SendingCode;
+
+// The cells suffice for what the streams carry, and the data words carry whole bytes.
+#[derive(Drop)]
+pub struct Layout<'a, D: SendingCode<Symbol = bool>> {
+    mode: Mode,
+    plan: &'a [CellKind],
+    code: &'a D,
+    ghost roomy: { Roomy mode plan.now (D.SendingCode.message_length code.now) (D.SendingCode.word_length code.now) },
+}
+
+impl<'a, D: SendingCode<Symbol = bool>> Layout<'a, D> {
+    pub fn mode(&self) -> Mode
+        ensures { result ≡ self.now.mode }
+    {
+        self.mode
+    }
+
+    pub fn plan(&self) -> &'a [CellKind]
+        ensures { result.now ≡ self.now.plan.now }
+    {
+        self.plan
+    }
+
+    pub fn code(&self) -> &'a D
+        ensures { result.now ≡ self.now.code.now }
+    {
+        self.code
+    }
+
+    // The data words of a frame.
+    pub fn words(&self) -> usize
+        ensures count { result ≡ words_of self.now.mode }
+        ensures few { result ≤ 3 }
+    {
+        data_words(self.mode.data)
+    }
+
+    // The bytes of a frame's block.
+    pub fn block_length(&self) -> usize
+        ensures { result ≡ block_length_of self.now.mode (D.SendingCode.message_length self.now.code.now) }
+    {
+        self.words() * self.code.message_length() / 8
+    }
+}
