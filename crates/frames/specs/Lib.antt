@@ -2,4 +2,5 @@ pub mod Laying
 pub mod Words
 pub mod Frames
 pub mod Reading
+pub mod Tellings
 pub mod Faults

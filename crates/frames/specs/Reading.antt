@@ -1,5 +1,5 @@
 -- Reading a frame: what its cells are decided for, what is within reach, and what is answered.
-use Rattle.std.specs.Prelude.{◌≡◌, ℕ, ◌<◌, ◌≤◌, Bool, List, length, None, Ok, Err, Result}
+use Rattle.std.specs.Prelude.{◌≡◌, ℕ, ◌<◌, ◌≤◌, Bool, List, length, None, Ok, Err, MatchResult, Result}
 use Rattle.codes.specs.Symbols.{differing}
 use Rattle.bits.specs.Bits.{AllBelow, spread}
 use Rattle.bits.specs.Scrambling.{scrambled}
@@ -13,15 +13,16 @@ use Rattle.lineup.specs.declared.kind.CellKind.{CellKind}
 use Rattle.lineup.specs.declared.kind.CellKind.TheVariants.{Mis as MisKind, Tis as TisKind, Data as DataKind}
 use Rattle.lineup.specs.declared.mode.Mode.{Mode}
 use Rattle.modem.specs.Carrying.{symbols_of}
-use Rattle.modem.specs.MisStream.{MisAnswer}
-use Rattle.modem.specs.TisStream.{TisAnswer, tis_order}
+use Rattle.modem.specs.Reading.{wrong_symbols}
+use Rattle.modem.specs.MisStream.{MisAnswer, mis_cells}
+use Rattle.modem.specs.TisStream.{TisAnswer, tis_cells, tis_order}
 use Rattle.modem.specs.declared.carrying.Reading.{Reading}
 use Rattle.modem.specs.declared.fault.StreamFault.{StreamFault}
 use Rattle.modes.specs.declared.mode.Mis.{Mis}
 use Rattle.modes.specs.declared.station.Station.{Station}
 use Rattle.modes.specs.declared.station.Tis.{Tis}
 use Rattle.packets.specs.Packets.{Content, Fits, block_of, packet_in}
-use Rattle.frames.specs.Frames.{Sending, data_order, frame_of}
+use Rattle.frames.specs.Frames.{Sending, data_bits, data_order, frame_of}
 use Rattle.frames.specs.Laying.{picked}
 use Rattle.frames.specs.Words.{WordLost, WordsWithin, wrong_bits}
 use Rattle.frames.specs.declared.fault.FrameFault.{FrameFault}
@@ -117,6 +118,34 @@ module _ (s : Sending) (m : Mending) (plan : List CellKind) (mode : Mode) (cells
       Passes × (word < words_of mode) × WordLost s.data_word m.data_reach s.k s.n word (data_stream m plan mode cells)
   FrameAnswer (Err (PacketFault f)) =
       Passes × (block : List ℕ) × (length block ≡ block_length_of mode s.k) × AllBelow 256 block × BlockWithin block × (packet_in block ≡ None)
+
+  -- what is read of the MIS, of the TIS and of the data, one after the other, and that it is what was sent
+  abbrev pub ModeTold : Result ℕ FrameFault → Type 0
+  ModeTold answer = MatchResult answer MisPasses (λ f. FrameAnswer (Err f))
+
+  abbrev pub ModeAsSent : Result ℕ FrameFault → Type 0
+  ModeAsSent answer =
+      let e = wrong_symbols (m.mis_decided Four) 4 (mis_cells s.mis_word (s.mis_point Four) (stated_mis mode)) (picked MisKind plan cells) in
+      e ≤ m.mis_reach → answer ≡ Ok e
+
+  abbrev pub StationTold : Result (Reading Station) FrameFault → Type 0
+  StationTold answer =
+      MatchResult answer (λ got. TisPasses got.stated got.mended) (λ f. (x : ℕ) → MisPasses x → FrameAnswer (Err f))
+
+  abbrev pub StationAsSent : Result (Reading Station) FrameFault → Type 0
+  StationAsSent answer =
+      (station : Station)
+      → let e = wrong_symbols (m.tis_decided (tis_order mode.tis)) 29 (tis_cells s.tis_word s.tis_point mode.tis (stated_tis mode station)) (picked TisKind plan cells) in
+      e ≤ m.tis_reach → answer ≡ Ok (record { stated = station; mended = e })
+
+  abbrev pub BlockTold : List ℕ → Result (Unit {0}) FrameFault → Type 0
+  BlockTold block answer = MatchResult answer (λ done. BlockWithin block) (λ f. Passes → FrameAnswer (Err f))
+
+  abbrev pub BlockAsSent : List ℕ → Result (Unit {0}) FrameFault → Type 0
+  BlockAsSent block answer =
+      (sent : List ℕ) → length sent ≡ block_length_of mode s.k → AllBelow 256 sent
+      → ((i : ℕ) → i < words_of mode → wrong_bits s.n i (data_bits s mode sent) (data_stream m plan mode cells) ≤ m.data_reach)
+      → (answer ≡ Ok tt) × (block ≡ sent)
 
   -- cells within reach of a frame of the mode are read as what that frame states, and exactly the wrong symbols are mended
   abbrev pub ReadsSent : Result Told FrameFault → Type 0

@@ -4,10 +4,12 @@
 mod channel;
 mod fault;
 mod laying;
+mod reading;
 mod received;
 mod words;
 mod writing;
 
 pub use channel::Channel;
 pub use fault::FrameFault;
+pub use reading::{Heard, Mended};
 pub use received::ReceivedCells;

@@ -17,13 +17,13 @@ use modem::{write_mis, write_tis};
 use modes::{DataConstellation, Station};
 
 // the bits of the longest block
-const MOST_MESSAGE_BITS: usize = 11520;
+pub(crate) const MOST_MESSAGE_BITS: usize = 11520;
 
 // the bits of three of the longest data words
-const MOST_WORD_BITS: usize = 15360;
+pub(crate) const MOST_WORD_BITS: usize = 15360;
 
-// the cells that the longest data words fill, two bits of each word to a cell
-const MOST_DATA_CELLS: usize = 2560;
+// the cells that the longest data words fill
+pub(crate) const MOST_DATA_CELLS: usize = 2560;
 
 // The order of a constellation of the data.
 pub(crate) fn order_of(constellation: DataConstellation) -> Order
@@ -85,7 +85,7 @@ impl<
         let mis = write_mis(&self.mis, &self.mis_points, mode.mis());
         let tis = write_tis(&self.tis, &self.tis_points, mode.tis, mode.tis(station));
         let mut store = [Cell::ORIGIN; MOST_DATA_CELLS];
-        let data = &mut store[..layout.code().word_length() / 2];
+        let data = &mut store[..layout.data_cells()];
         self.write_data(layout, block, data);
         let streams = Streams {
             mis: &mis.cells,

@@ -1,5 +1,5 @@
 // What a filled line-up is to a frame: its mode, what each cell carries, and the code of its data.
-ghost use Rattle.std.specs.Prelude.{◌≡◌, ◌≤◌};
+ghost use Rattle.std.specs.Prelude.{◌≡◌, ◌/◌, ◌≤◌};
 ghost use Rattle.lineup.specs.Layouts.{Roomy, block_length_of, words_of};
 
 use crate::kind::CellKind;
@@ -41,6 +41,14 @@ impl<'a, D: SendingCode<Symbol = bool>> Layout<'a, D> {
         ensures few { result ≤ 3 }
     {
         data_words(self.mode.data)
+    }
+
+    // The cells that the data words fill, two bits of each word to a cell.
+    pub fn data_cells(&self) -> usize
+        ensures count { result ≡ D.SendingCode.word_length self.now.code.now / 2 }
+        ensures most { result ≤ 2560 }
+    {
+        self.code.word_length() / 2
     }
 
     // The bytes of a frame's block.

@@ -1,0 +1,15 @@
+-- What a reader's answer tells, by the values that it refers to.
+use Rattle.std.specs.Prelude.{Ok, Err, Result}
+use Rattle.packets.specs.Packets.{carried}
+use Rattle.frames.specs.Reading.{Told}
+use Rattle.frames.specs.declared.fault.FrameFault.{FrameFault}
+use Rattle.frames.specs.declared.reading.Heard.{Heard}
+
+abbrev pub told : Result Heard FrameFault → Result Told FrameFault
+told (Ok h) =
+    Ok (record {
+      stated = record { mode = h.mode; station = h.station; packet = carried h.packet };
+      mis_mended = h.mended.mis;
+      tis_mended = h.mended.tis;
+    })
+told (Err fault) = Err fault

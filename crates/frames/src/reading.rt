@@ -1,0 +1,148 @@
+// Reading a frame.
+ghost use Rattle.std.specs.Prelude.{◌≡◌, ◌*◌, ◌/◌, ◌≤◌, length};
+ghost use Rattle.lineup.specs.Layouts.{Roomy, block_length_of};
+ghost use Rattle.frames.specs.Frames.{sending};
+ghost use Rattle.frames.specs.Laying.{cells_in};
+ghost use Rattle.frames.specs.Reading.{BlockAsSent, BlockTold, FrameAnswer, HasFrame, mending, ModeAsSent, ModeTold, ReadsSent, StationAsSent, StationTold};
+ghost use Rattle.frames.specs.Tellings.{told};
+
+use crate::channel::Channel;
+use crate::fault::FrameFault;
+use crate::received::ReceivedCells;
+use crate::words::mend_words;
+use crate::writing::{MOST_DATA_CELLS, MOST_MESSAGE_BITS, MOST_WORD_BITS, order_of};
+use bits::{cut, scramble};
+use cells::{Cell, Constellation, Modulation};
+use codes::lengths::FixedCode;
+use codes::words::MendingCode;
+use lineup::kind::CellKind;
+use lineup::layout::Layout;
+use lineup::mode::Mode;
+use modem::{Reading, read_mis, read_tis};
+use modes::Station;
+use packets::{Packet, read_packet};
+
+// The symbols mended in the streams whose codes mend.
+#[derive(Clone, Copy, PartialEq, Eq, Debug)]
+pub struct Mended {
+    pub mis: usize,
+    pub tis: usize,
+}
+
+// What the cells of a frame state.
+#[derive(Clone, Copy)]
+pub struct Heard<'a> {
+    pub mode: Mode,
+    pub station: Station,
+    pub packet: Packet<'a>,
+    pub mended: Mended,
+}
+
+impl<
+    M: FixedCode<2, 4> + MendingCode<Symbol = u8>,
+    T: FixedCode<9, 29> + MendingCode<Symbol = u8>,
+    A: Constellation,
+    B: Constellation,
+    C: Constellation,
+> Channel<M, T, A, B, C> {
+    // The symbols mended in the MIS, which is to state the mode.
+    fn read_mode<D: MendingCode<Symbol = bool>>(
+        &self,
+        layout: &Layout<'_, D>,
+        received: ReceivedCells<'_>,
+    ) -> Result<usize, FrameFault>
+        requires { received.plan.now ≡ layout.now.plan.now }
+        ensures told { ModeTold (sending (M.SendingCode.word self.now.mis) (T.SendingCode.word self.now.tis) (D.SendingCode.word layout.now.code.now) (A.Constellation.point self.now.mis_points) (B.Constellation.point self.now.tis_points) (C.Constellation.point self.now.data_points) (D.SendingCode.message_length layout.now.code.now) (D.SendingCode.word_length layout.now.code.now)) (mending (M.MendingCode.reach self.now.mis) (T.MendingCode.reach self.now.tis) (D.MendingCode.reach layout.now.code.now) (A.Constellation.decided self.now.mis_points) (B.Constellation.decided self.now.tis_points) (C.Constellation.decided self.now.data_points)) layout.now.plan.now layout.now.mode (cells_in received.entry.numbers.now) result }
+        ensures as_sent { ModeAsSent (sending (M.SendingCode.word self.now.mis) (T.SendingCode.word self.now.tis) (D.SendingCode.word layout.now.code.now) (A.Constellation.point self.now.mis_points) (B.Constellation.point self.now.tis_points) (C.Constellation.point self.now.data_points) (D.SendingCode.message_length layout.now.code.now) (D.SendingCode.word_length layout.now.code.now)) (mending (M.MendingCode.reach self.now.mis) (T.MendingCode.reach self.now.tis) (D.MendingCode.reach layout.now.code.now) (A.Constellation.decided self.now.mis_points) (B.Constellation.decided self.now.tis_points) (C.Constellation.decided self.now.data_points)) layout.now.plan.now layout.now.mode (cells_in received.entry.numbers.now) result }
+    {
+        let mut cells = [Cell::ORIGIN; 14];
+        received.gather(CellKind::Mis, &mut cells);
+        let mis = read_mis(&self.mis, &self.mis_points, &cells).map_err(FrameFault::Mis)?;
+        if mis.stated != layout.mode().mis() {
+            return Err(FrameFault::OtherMode(mis.stated));
+        }
+        Ok(mis.mended)
+    }
+
+    // The station that the TIS states, and the symbols mended. It is to state the mode's data coding.
+    fn read_station<D: MendingCode<Symbol = bool>>(
+        &self,
+        layout: &Layout<'_, D>,
+        received: ReceivedCells<'_>,
+    ) -> Result<Reading<Station>, FrameFault>
+        requires { received.plan.now ≡ layout.now.plan.now }
+        ensures told { StationTold (sending (M.SendingCode.word self.now.mis) (T.SendingCode.word self.now.tis) (D.SendingCode.word layout.now.code.now) (A.Constellation.point self.now.mis_points) (B.Constellation.point self.now.tis_points) (C.Constellation.point self.now.data_points) (D.SendingCode.message_length layout.now.code.now) (D.SendingCode.word_length layout.now.code.now)) (mending (M.MendingCode.reach self.now.mis) (T.MendingCode.reach self.now.tis) (D.MendingCode.reach layout.now.code.now) (A.Constellation.decided self.now.mis_points) (B.Constellation.decided self.now.tis_points) (C.Constellation.decided self.now.data_points)) layout.now.plan.now layout.now.mode (cells_in received.entry.numbers.now) result }
+        ensures as_sent { StationAsSent (sending (M.SendingCode.word self.now.mis) (T.SendingCode.word self.now.tis) (D.SendingCode.word layout.now.code.now) (A.Constellation.point self.now.mis_points) (B.Constellation.point self.now.tis_points) (C.Constellation.point self.now.data_points) (D.SendingCode.message_length layout.now.code.now) (D.SendingCode.word_length layout.now.code.now)) (mending (M.MendingCode.reach self.now.mis) (T.MendingCode.reach self.now.tis) (D.MendingCode.reach layout.now.code.now) (A.Constellation.decided self.now.mis_points) (B.Constellation.decided self.now.tis_points) (C.Constellation.decided self.now.data_points)) layout.now.plan.now layout.now.mode (cells_in received.entry.numbers.now) result }
+    {
+        let mode = layout.mode();
+        let mut cells = [Cell::ORIGIN; 102];
+        received.gather(CellKind::Tis, &mut cells[..mode.tis.cell_count()]);
+        let tis = read_tis(&self.tis, &self.tis_points, mode.tis, &cells).map_err(FrameFault::Tis)?;
+        if tis.stated.coding != mode.coding() {
+            return Err(FrameFault::OtherDataCoding);
+        }
+        Ok(Reading {
+            stated: tis.stated.station,
+            mended: tis.mended,
+        })
+    }
+
+    // Mends the data words, and writes the block that they carry.
+    fn read_block<D: MendingCode<Symbol = bool>>(
+        &self,
+        layout: &Layout<'_, D>,
+        received: ReceivedCells<'_>,
+        block: &mut [u8],
+    ) -> Result<(), FrameFault>
+        requires plan { received.plan.now ≡ layout.now.plan.now }
+        requires block { length block.old ≡ block_length_of layout.now.mode (D.SendingCode.message_length layout.now.code.now) }
+        ensures told { BlockTold (sending (M.SendingCode.word self.now.mis) (T.SendingCode.word self.now.tis) (D.SendingCode.word layout.now.code.now) (A.Constellation.point self.now.mis_points) (B.Constellation.point self.now.tis_points) (C.Constellation.point self.now.data_points) (D.SendingCode.message_length layout.now.code.now) (D.SendingCode.word_length layout.now.code.now)) (mending (M.MendingCode.reach self.now.mis) (T.MendingCode.reach self.now.tis) (D.MendingCode.reach layout.now.code.now) (A.Constellation.decided self.now.mis_points) (B.Constellation.decided self.now.tis_points) (C.Constellation.decided self.now.data_points)) layout.now.plan.now layout.now.mode (cells_in received.entry.numbers.now) block.new result }
+        ensures as_sent { BlockAsSent (sending (M.SendingCode.word self.now.mis) (T.SendingCode.word self.now.tis) (D.SendingCode.word layout.now.code.now) (A.Constellation.point self.now.mis_points) (B.Constellation.point self.now.tis_points) (C.Constellation.point self.now.data_points) (D.SendingCode.message_length layout.now.code.now) (D.SendingCode.word_length layout.now.code.now)) (mending (M.MendingCode.reach self.now.mis) (T.MendingCode.reach self.now.tis) (D.MendingCode.reach layout.now.code.now) (A.Constellation.decided self.now.mis_points) (B.Constellation.decided self.now.tis_points) (C.Constellation.decided self.now.data_points)) layout.now.plan.now layout.now.mode (cells_in received.entry.numbers.now) block.new result }
+    {
+        let count = layout.words();
+        let mut store = [Cell::ORIGIN; MOST_DATA_CELLS];
+        let cells = &mut store[..layout.data_cells()];
+        received.gather(CellKind::Data, cells);
+        let modulation = Modulation {
+            points: &self.data_points,
+            order: order_of(layout.mode().data),
+        };
+        let mut coded = [false; MOST_WORD_BITS];
+        let words = &mut coded[..count * layout.code().word_length()];
+        modulation.decide_bits(cells, words);
+        let mut bits = [false; MOST_MESSAGE_BITS];
+        let messages = &mut bits[..8 * block.len()];
+        mend_words(layout.code(), count, words, messages).map_err(FrameFault::Data)?;
+        scramble(messages);
+        cut::<8>(messages, block);
+        Ok(())
+    }
+
+    // What the cells state, or the first fault that holds. The packet's data stand in `block`, which has the bytes of a frame's block.
+    pub fn read_frame<'b, D: MendingCode<Symbol = bool>>(
+        &self,
+        layout: &Layout<'_, D>,
+        received: ReceivedCells<'_>,
+        block: &'b mut [u8],
+    ) -> Result<Heard<'b>, FrameFault>
+        requires plan { received.plan.now ≡ layout.now.plan.now }
+        requires block { length block.old ≡ block_length_of layout.now.mode (D.SendingCode.message_length layout.now.code.now) }
+        ensures answer { FrameAnswer (sending (M.SendingCode.word self.now.mis) (T.SendingCode.word self.now.tis) (D.SendingCode.word layout.now.code.now) (A.Constellation.point self.now.mis_points) (B.Constellation.point self.now.tis_points) (C.Constellation.point self.now.data_points) (D.SendingCode.message_length layout.now.code.now) (D.SendingCode.word_length layout.now.code.now)) (mending (M.MendingCode.reach self.now.mis) (T.MendingCode.reach self.now.tis) (D.MendingCode.reach layout.now.code.now) (A.Constellation.decided self.now.mis_points) (B.Constellation.decided self.now.tis_points) (C.Constellation.decided self.now.data_points)) layout.now.plan.now layout.now.mode (cells_in received.entry.numbers.now) (told result) }
+        ensures reads_sent { ReadsSent (sending (M.SendingCode.word self.now.mis) (T.SendingCode.word self.now.tis) (D.SendingCode.word layout.now.code.now) (A.Constellation.point self.now.mis_points) (B.Constellation.point self.now.tis_points) (C.Constellation.point self.now.data_points) (D.SendingCode.message_length layout.now.code.now) (D.SendingCode.word_length layout.now.code.now)) (mending (M.MendingCode.reach self.now.mis) (T.MendingCode.reach self.now.tis) (D.MendingCode.reach layout.now.code.now) (A.Constellation.decided self.now.mis_points) (B.Constellation.decided self.now.tis_points) (C.Constellation.decided self.now.data_points)) layout.now.plan.now layout.now.mode (cells_in received.entry.numbers.now) (told result) }
+        ensures has_frame { HasFrame (sending (M.SendingCode.word self.now.mis) (T.SendingCode.word self.now.tis) (D.SendingCode.word layout.now.code.now) (A.Constellation.point self.now.mis_points) (B.Constellation.point self.now.tis_points) (C.Constellation.point self.now.data_points) (D.SendingCode.message_length layout.now.code.now) (D.SendingCode.word_length layout.now.code.now)) (mending (M.MendingCode.reach self.now.mis) (T.MendingCode.reach self.now.tis) (D.MendingCode.reach layout.now.code.now) (A.Constellation.decided self.now.mis_points) (B.Constellation.decided self.now.tis_points) (C.Constellation.decided self.now.data_points)) layout.now.plan.now layout.now.mode (cells_in received.entry.numbers.now) (told result) }
+    {
+        let mis = self.read_mode(layout, received)?;
+        let tis = self.read_station(layout, received)?;
+        self.read_block(layout, received, block)?;
+        let packet = read_packet(block)?;
+        Ok(Heard {
+            mode: layout.mode(),
+            station: tis.stated,
+            packet,
+            mended: Mended {
+                mis,
+                tis: tis.mended,
+            },
+        })
+    }
+}
