@@ -67,11 +67,12 @@ impl<const ROOTS: usize, const MESSAGE: usize, const WORD: usize> ReedSolomon<
     }
 
     // Whether the symbols are a word: behind the message stands its remainder.
-    pub(crate) fn is_word(&self, symbols: Polynomial) -> bool
-        requires { length symbols.coefficients.now ≡ WORD }
-        ensures { Decides result (symbols.entry.coefficients.now ≡ word_of (generator_of ROOTS) (take MESSAGE symbols.entry.coefficients.now)) }
+    pub(crate) fn is_word(&self, symbols: &[u8]) -> bool
+        requires size { length symbols.now ≡ WORD }
+        requires below { Symbols symbols.now }
+        ensures { Decides result (symbols.now ≡ word_of (generator_of ROOTS) (take MESSAGE symbols.now)) }
     {
-        let (message, checks) = symbols.as_slice().split_at(MESSAGE);
+        let (message, checks) = symbols.split_at(MESSAGE);
         let rest = self.remainder(Polynomial::new(message));
         rest.as_slice() == checks
     }

@@ -84,7 +84,7 @@ impl<const ROOTS: usize, const MESSAGE: usize, const WORD: usize> MendingCode
         let mut word = [0; WORD];
         word.copy_from_slice(given);
         let mended = self.mend_one(&mut word)?;
-        if !self.is_word(Polynomial::new(&word)) {
+        if !self.is_word(&word) {
             return Err(BeyondReach);
         }
         message.copy_from_slice(&word[..MESSAGE]);
