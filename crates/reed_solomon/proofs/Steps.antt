@@ -1,4 +1,4 @@
--- One more symbol into the remainder, place by place. Assumes nothing.
+-- One more symbol into the remainder, place by place, and a word by its remainder. Assumes nothing.
 use Rattle.std.proofs.Common.{◌≡◌, ℕ, zero, suc, ◌+◌, ◌<◌, ◌≤◌, List, [], ◌∷◌, ◌++◌, map, length, get_or, take, drop, replicate, sym, refl, ap, subst, ◌∙◌, add-one, arith}
 use lib.Bits.{bit_xor}
 use Rattle.std.proofs.lemmas.List.{get_or-drop, get_or-map, length-drop, length-append, length-map, length-take-le, take-append-drop, drop_at, at_drop_more, at_drop_all}

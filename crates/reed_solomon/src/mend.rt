@@ -58,7 +58,8 @@ impl<const ROOTS: usize, const MESSAGE: usize, const WORD: usize> ReedSolomon<
     MESSAGE,
     WORD,
 > {
-    // Makes of the symbols the only ones within one place that may be a word, and answers in how many places they differ.
+    // Makes of the symbols the only ones within one place that may be a word,
+    // and answers in how many places these differ.
     fn mend_one(&self, symbols: &mut [u8]) -> Result<usize, BeyondReach>
         requires size { length symbols.old ≡ WORD }
         requires below { Symbols symbols.old }
@@ -84,6 +85,7 @@ impl<const ROOTS: usize, const MESSAGE: usize, const WORD: usize> MendingCode
         let mut word = [0; WORD];
         word.copy_from_slice(given);
         let mended = self.mend_one(&mut word)?;
+        // the values at the other roots may still be of no word
         if !self.is_word(&word) {
             return Err(BeyondReach);
         }
