@@ -1,12 +1,12 @@
--- One wrong place: what it does to the values, and how it is mended.
+-- One wrong place: what it does to the values, and how the first two of these tell it.
 -- Assumes nothing.
-use Rattle.std.proofs.Common.{◌≡◌, ℕ, zero, suc, ◌+◌, ◌-◌, ◌*◌, ◌<◌, ◌≤◌, ◌⊎◌, List, [], ◌∷◌, length, get_or, set, replicate, sym, refl, ap, ◌∙◌, ap₂, inl, inr, ⊎_elim, le_refl, pos_of_ne-zero, mul-one, mul-suc, add-one, arith, length-set}
+use Rattle.std.proofs.Common.{◌≡◌, ℕ, zero, suc, ◌+◌, ◌-◌, ◌*◌, ◌<◌, ◌≤◌, ◌⊎◌, List, [], ◌∷◌, length, get_or, set, replicate, sym, refl, ap, ◌∙◌, ap₂, inl, inr, ⊎_elim, le_refl, pos_of_ne-zero, mul-one, mul-suc, arith, length-set}
 use lib.Bits.{bit_xor, xor_comm, xor_assoc, xor_zero_r}
 use Rattle.codes.specs.Symbols.{differing}
 use Rattle.reed_solomon.specs.Field.{raised}
 use Rattle.reed_solomon.specs.Words.{value_at, Roots, Symbols, added}
-use Rattle.reed_solomon.specs.Errors.{changed}
-use Rattle.reed_solomon.specs.Powers.{xor_twice, xor_none, xor_below, raised_lt, raised-xor, raised-zero, raised-add, raised_none, raised_back}
+use Rattle.reed_solomon.specs.Errors.{OneWrong, changed}
+use Rattle.reed_solomon.specs.Powers.{xor_twice, xor_none, xor_below, raised_lt, raised-xor, raised-zero, raised-add, raised_none, raised-same, raised_back, raised_power}
 use Rattle.reed_solomon.specs.ValuesLemmas.{symbols_head, symbols_tail, symbols_at, symbols_set, symbols_added, length-added, value_at-cons, value_at-zeros, value_at-lt, value_at-added}
 use Rattle.codes.specs.SymbolsLemmas.{apart-same, apart_other, apart_cases, differing_self}
 use Rattle.reed_solomon.specs.Distance.{weight, differs, differs-weight, added_none}
@@ -19,83 +19,116 @@ weight_none [] e = refl
 weight_none (c ∷ cs) e =
     ⊎_elim (λ s. ap₂ ◌∷◌ s.0 (weight_none cs (omega arith))) (λ f. absurd (omega (arith, f.1))) (apart_cases c 0)
 
--- the symbol e stands at the place p, counted from the end, and all else is 0: so the values are
-pub record Lone (cs : List ℕ) : Type 0 where
-  pub place : ℕ
-  pub error : ℕ
-  pub inside : place < length cs
-  pub some : 0 < error
-  pub symbol : error < 128
-  pub values : (j : ℕ) → value_at j cs ≡ raised (place * j) error
+-- some place and error
+abbrev pub SomeWrong : ℕ → List ℕ → Type 0
+SomeWrong r cs = (p : ℕ) × (e : ℕ) × OneWrong r cs p e
 
-pub one_place : (cs : List ℕ) → Symbols cs → weight cs ≤ 1 → (cs ≡ replicate (length cs) 0) ⊎ Lone cs
+one_place : (r : ℕ) (cs : List ℕ) → Symbols cs → weight cs ≤ 1 → (cs ≡ replicate (length cs) 0) ⊎ SomeWrong r cs
 unfolding weight
-one_place [] s h = inl refl
-one_place (c ∷ cs) s h =
+one_place r [] s h = inl refl
+one_place r (c ∷ cs) s h =
     ⊎_elim
     (λ e.
     ⊎_elim (λ z. inl (ap₂ ◌∷◌ e.0 z))
-    (λ o. inr (record {
-      place = o.place;
-      error = o.error;
-      inside = omega (arith, o.inside);
-      some = o.some;
-      symbol = o.symbol;
-      values = λ j.
-          value_at-cons j c cs
-          ∙ ap₂ bit_xor (ap (raised (length cs * j)) e.0 ∙ raised-zero (length cs * j)) (o.values j);
-    }))
-    (one_place cs (symbols_tail c cs s) (omega arith)))
-    (λ f. inr (record {
-      place = length cs;
-      error = c;
-      inside = le_refl (length (c ∷ cs));
-      some = pos_of_ne-zero f.0;
-      symbol = symbols_head c cs s;
-      values = λ j.
-          value_at-cons j c cs
-          ∙ ap (λ (x : ℕ). bit_xor (raised (length cs * j) c) x)
-          (ap (value_at j) (weight_none cs (omega (arith, f.1))) ∙ value_at-zeros j (length cs))
-          ∙ xor_zero_r (raised (length cs * j) c);
-    }))
+    (λ o. inr (
+      o.0,
+      o.1,
+      record {
+        inside = omega (arith, o.2.inside);
+        some = o.2.some;
+        symbol = o.2.symbol;
+        values = λ j u l.
+            value_at-cons j c cs
+            ∙ ap₂ bit_xor (ap (raised (length cs * j)) e.0 ∙ raised-zero (length cs * j)) (o.2.values j u l);
+      },
+    ))
+    (one_place r cs (symbols_tail c cs s) (omega arith)))
+    (λ f. inr (
+      length cs,
+      c,
+      record {
+        inside = le_refl (length (c ∷ cs));
+        some = pos_of_ne-zero f.0;
+        symbol = symbols_head c cs s;
+        values = λ j u l.
+            value_at-cons j c cs
+            ∙ ap (λ (x : ℕ). bit_xor (raised (length cs * j) c) x)
+            (ap (value_at j) (weight_none cs (omega (arith, f.1))) ∙ value_at-zeros j (length cs))
+            ∙ xor_zero_r (raised (length cs * j) c);
+      },
+    ))
     (apart_cases c 0)
 
 -- ---- what is given has one wrong place
 
-pub record OneError (r : ℕ) (given : List ℕ) : Type 0 where
-  pub place : ℕ
-  pub error : ℕ
-  pub inside : place < length given
-  pub some : 0 < error
-  pub symbol : error < 128
-  pub values : (j : ℕ) → 1 ≤ j → j ≤ r → value_at j given ≡ raised (place * j) error
-
-pub one_wrong : (r : ℕ) (w given : List ℕ) → Roots r w → Symbols w → Symbols given → length w ≡ length given → differing (λ (x : ℕ). x) w given ≤ 1 → (w ≡ given) ⊎ OneError r given
+pub one_wrong : (r : ℕ) (w given : List ℕ) → Roots r w → Symbols w → Symbols given → length w ≡ length given → differing (λ (x : ℕ). x) w given ≤ 1 → (w ≡ given) ⊎ SomeWrong r given
 one_wrong r w given roots s t n d =
     let k : length (added w given) ≡ length w = length-added w given in
     ⊎_elim (λ z. inl (added_none w given n (z ∙ ap (λ (m : ℕ). replicate m 0) k)))
-    (λ o. inr (record {
-      place = o.place;
-      error = o.error;
-      inside = omega (arith, o.inside);
-      some = o.some;
-      symbol = o.symbol;
-      values = λ j h l.
-          sym (value_at-added j w given n ∙ ap (λ (x : ℕ). bit_xor x (value_at j given)) (roots j h l)) ∙ o.values j;
-    }))
-    (one_place (added w given) (symbols_added w given s t) (omega (arith, differs-weight w given n)))
+    (λ o. inr (
+      o.0,
+      o.1,
+      record {
+        inside = omega (arith, o.2.inside);
+        some = o.2.some;
+        symbol = o.2.symbol;
+        values = λ j h l.
+            sym (value_at-added j w given n ∙ ap (λ (x : ℕ). bit_xor x (value_at j given)) (roots j h l)) ∙ o.2.values j h l;
+      },
+    ))
+    (one_place r (added w given) (symbols_added w given s t) (omega (arith, differs-weight w given n)))
 
-pub wrong_first : (r : ℕ) (given : List ℕ) → OneError r given → 1 ≤ r → 0 < value_at 1 given
-wrong_first r given o h =
-    pos_of_ne-zero
-    (λ z. omega (arith, o.some, raised_none (o.place * 1) o.error o.symbol (sym (o.values 1 (omega arith) h) ∙ z)))
+-- ---- the values at α and α^2
 
-pub wrong_step : (r : ℕ) (given : List ℕ) (o : OneError r given) (j : ℕ) → 1 ≤ j → j < r → value_at (j + 1) given ≡ raised o.place (value_at j given)
-wrong_step r given o j h l =
-    o.values (j + 1) (omega arith) (omega arith)
-    ∙ ap (λ (k : ℕ). raised k o.error) (ap (λ (m : ℕ). o.place * m) (add-one j) ∙ omega (arith, mul-suc o.place j))
-    ∙ raised-add o.place (o.place * j) o.error
-    ∙ ap (raised o.place) (sym (o.values j h (omega arith)))
+-- where more of the values are those of one wrong symbol, the first two are
+pub first_two : (r : ℕ) (given : List ℕ) (p e : ℕ) → 2 ≤ r → OneWrong r given p e → OneWrong 2 given p e
+first_two r given p e h o = record { inside = o.inside; some = o.some; symbol = o.symbol; values = λ j u l. o.values j u (omega arith) }
+
+module _ (given : List ℕ) (p e : ℕ) (o : OneWrong 2 given p e) where
+  first_value : value_at 1 given ≡ raised p e
+  first_value = o.values 1 (omega arith) (omega arith) ∙ ap (λ k. raised k e) (mul-one p)
+
+  pub second_value : value_at 2 given ≡ raised p (value_at 1 given)
+  second_value =
+      o.values 2 (omega arith) (omega arith) ∙ ap (λ k. raised k e) (omega (arith, mul-suc p 1)) ∙ raised-add p p e
+      ∙ ap (raised p) (sym first_value)
+
+  pub first_some : 0 < value_at 1 given
+  first_some = pos_of_ne-zero (λ z. omega (arith, o.some, raised_none p e o.symbol (sym first_value ∙ z)))
+
+  pub second_some : Symbols given → value_at 2 given ≡ 0 → ⊥
+  second_some s z = omega (arith, first_some, raised_none p (value_at 1 given) (value_at-lt 1 given s) (sym second_value ∙ z))
+
+  -- so they tell the place, and with it the error
+  pub same_place : (q : ℕ) → Symbols given → length given ≤ 127 → q < 127 → value_at 2 given ≡ raised q (value_at 1 given) → p ≡ q
+  same_place q s short h step =
+      raised_power p q (value_at 1 given) (value_at-lt 1 given s) first_some (omega (arith, o.inside)) h (sym second_value ∙ step)
+
+  pub same_error : (f : ℕ) → OneWrong 2 given p f → e ≡ f
+  same_error f q =
+      raised-same p e f o.symbol q.symbol (sym first_value ∙ q.values 1 (omega arith) (omega arith) ∙ ap (λ k. raised k f) (mul-one p))
+
+pub told : (given : List ℕ) (p : ℕ) → p < length given → length given ≤ 127 → Symbols given → 0 < value_at 1 given
+    → value_at 2 given ≡ raised p (value_at 1 given) → OneWrong 2 given p (raised (127 - p) (value_at 1 given))
+told given p h short s some step =
+    record {
+      inside = h;
+      some = pos_of_ne-zero (λ z. omega (arith, some, up ∙ ap (raised p) z ∙ raised-zero p));
+      symbol = raised_lt (127 - p) (value_at 1 given) (value_at-lt 1 given s);
+      values = at;
+    }
+  where
+    e : ℕ
+    e = raised (127 - p) (value_at 1 given)
+
+    up : value_at 1 given ≡ raised p e
+    up = sym (raised_back p (value_at 1 given) (value_at-lt 1 given s) (omega arith))
+
+    at : (j : ℕ) → 1 ≤ j → j ≤ 2 → value_at j given ≡ raised (p * j) e
+    at zero u l = absurd (omega arith)
+    at (suc zero) u l = up ∙ ap (λ k. raised k e) (sym (mul-one p))
+    at (suc (suc zero)) u l = step ∙ ap (raised p) up ∙ sym (raised-add p p e) ∙ ap (λ k. raised k e) (omega (arith, mul-suc p 1))
+    at (suc (suc (suc j))) u l = absurd (omega arith)
 
 -- ---- a symbol is changed
 
@@ -142,51 +175,7 @@ differs-changed given p e h l =
     a : ℕ
     a = get_or given (length given - 1 - p) 0
 
--- ---- mending
-
-pub record Mends (r : ℕ) (given : List ℕ) (p e : ℕ) : Type 0 where
-  pub roots : Roots r (changed given p e)
-  pub symbols : Symbols (changed given p e)
-  pub size : length (changed given p e) ≡ length given
-  pub some : 0 < e
-  pub symbol : e < 128
-  pub places : differing (λ (x : ℕ). x) (changed given p e) given ≡ 1
-
--- values that go up by α^p from one to the next are those of one wrong place, p, with the symbol e
-steps_values : (r : ℕ) (given : List ℕ) (p e : ℕ) → value_at 1 given ≡ raised p e
-    → ((j : ℕ) → 1 ≤ j → j < r → value_at (j + 1) given ≡ raised p (value_at j given))
-    → (j : ℕ) → 1 ≤ j → j ≤ r → value_at j given ≡ raised (p * j) e
-steps_values r given p e first step zero h l = absurd (omega arith)
-steps_values r given p e first step (suc zero) h l = first ∙ ap (λ (k : ℕ). raised k e) (sym (mul-one p))
-steps_values r given p e first step (suc (suc j)) h l =
-    ap (λ (k : ℕ). value_at k given) (sym (add-one (suc j)))
-    ∙ step (suc j) (omega arith) l
-    ∙ ap (raised p) (steps_values r given p e first step (suc j) (omega arith) (omega arith))
-    ∙ sym (raised-add p (p * suc j) e)
-    ∙ ap (λ (k : ℕ). raised k e) (omega (arith, mul-suc p (suc j)))
-
-pub mended : (r : ℕ) (given : List ℕ) (p : ℕ) → p < length given → length given ≤ 127 → Symbols given → 0 < value_at 1 given
-    → ((j : ℕ) → 1 ≤ j → j < r → value_at (j + 1) given ≡ raised p (value_at j given))
-    → Mends r given p (raised (127 - p) (value_at 1 given))
-mended r given p h b s first step =
-    record {
-      roots = λ j u l.
-          value_at-changed j given p e h ∙ xor_none (value_at j given) (raised (p * j) e) (steps_values r given p e up step j u l);
-      symbols = symbols_changed given p e s small;
-      size = length-changed given p e;
-      some = some;
-      symbol = small;
-      places = differs-changed given p e h some;
-    }
-  where
-    e : ℕ
-    e = raised (127 - p) (value_at 1 given)
-
-    small : e < 128
-    small = raised_lt (127 - p) (value_at 1 given) (value_at-lt 1 given s)
-
-    up : value_at 1 given ≡ raised p e
-    up = sym (raised_back p (value_at 1 given) (value_at-lt 1 given s) (omega arith))
-
-    some : 0 < e
-    some = pos_of_ne-zero (λ z. omega (arith, first, up ∙ ap (raised p) z ∙ raised-zero p))
+-- the error added at its place takes the values away
+pub roots_changed : (r : ℕ) (given : List ℕ) (p e : ℕ) → OneWrong r given p e → Roots r (changed given p e)
+roots_changed r given p e o j h l =
+    value_at-changed j given p e o.inside ∙ xor_none (value_at j given) (raised (p * j) e) (o.values j h l)

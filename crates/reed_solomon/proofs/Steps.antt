@@ -1,14 +1,12 @@
--- One more symbol into the remainder, place by place. Assumes nothing.
-use Rattle.std.proofs.Common.{◌≡◌, ℕ, zero, suc, ◌+◌, ◌<◌, ◌≤◌, List, [], ◌∷◌, ◌++◌, map, length, get_or, drop, sym, refl, ap, subst, ◌∙◌, add-one, arith}
+-- One more symbol into the remainder, place by place, and a word by its remainder. Assumes nothing.
+use Rattle.std.proofs.Common.{◌≡◌, ℕ, zero, suc, ◌+◌, ◌<◌, ◌≤◌, List, [], ◌∷◌, ◌++◌, map, length, get_or, take, drop, replicate, sym, refl, ap, subst, ◌∙◌, add-one, arith}
 use lib.Bits.{bit_xor}
-use Rattle.std.proofs.lemmas.List.{get_or-drop, get_or-map, length-drop, length-append, length-map, at_drop_more, at_drop_all}
-use Rattle.std.specs.List.{range_with_len}
-use Rattle.std.proofs.lemmas.List.FromFn.{length-map-range_with_len, get_or-map-range_with_len}
+use Rattle.std.proofs.lemmas.List.{get_or-drop, get_or-map, length-drop, length-append, length-map, length-take-le, take-append-drop, drop_at, at_drop_more, at_drop_all}
 use Rattle.std.specs.Array.{IsFromFnResult, IsFromFnResultFrom}
 use Rattle.std.specs.Fn.{Called, Mut}
 use Rattle.std.proofs.lemmas.Grind.{same_number_lists}
 use Rattle.reed_solomon.specs.Field.{times}
-use Rattle.reed_solomon.specs.Words.{Symbols, added, divide_step, divided}
+use Rattle.reed_solomon.specs.Words.{Symbols, added, divide_step, divided, word_of}
 use Rattle.reed_solomon.specs.ValuesLemmas.{length-added, symbols_append, symbols_drop, symbols_zeros, symbols_added, symbols_times}
 
 get_or-added : (xs ys : List ℕ) (i : ℕ) → i < length xs → i < length ys → get_or (added xs ys) i 0 ≡ bit_xor (get_or xs i 0) (get_or ys i 0)
@@ -70,6 +68,22 @@ pub divided_all : (g rest cs : List ℕ) (i : ℕ) → length cs ≤ i → divid
 unfolding divided
 divided_all g rest cs i h = at_drop_all (divided g rest) cs i h
 
+-- a word is its front with the remainder behind it
+module _ (g w : List ℕ) (r k : ℕ) (size : length g ≡ r) where
+  abbrev pub rest_of : List ℕ → List ℕ
+  rest_of = divided g (replicate r 0)
+
+  word_is_rest : word_of g (take k w) ≡ take k w ++ rest_of (take k w)
+  unfolding word_of
+  word_is_rest = ap (λ n. take k w ++ divided g (replicate n 0) (take k w)) size
+
+  pub word_from_rest : drop k w ≡ rest_of (take k w) → w ≡ word_of g (take k w)
+  word_from_rest e = sym (take-append-drop k w) ∙ ap (λ (xs : List ℕ). take k w ++ xs) e ∙ sym word_is_rest
+
+  pub rest_from_word : k ≤ length w → w ≡ word_of g (take k w) → drop k w ≡ rest_of (take k w)
+  rest_from_word h e =
+      ap (drop k) (e ∙ word_is_rest) ∙ drop_at (take k w) (rest_of (take k w)) k (length-take-le k w h)
+
 -- What `from_fn` makes of a closure that answers at each place what u tells, and changes nothing that it captures.
 module _ {F B : Type 0} (g : Mut F (ℕ × Unit {0}) B) (f : F) (u : B → ℕ) (at : ℕ → ℕ) (each : (i : ℕ) (y : B) (f' : F) → Called g f (i, tt) y f' → (u y ≡ at i) × (f' ≡ f)) where
   entries_from : (ys : List B) (i n : ℕ) → IsFromFnResultFrom g f ys i n → (k : ℕ) (d : B) → k < n → u (get_or ys (i + k) d) ≡ at (i + k)
@@ -85,11 +99,3 @@ module _ {F B : Type 0} (g : Mut F (ℕ × Unit {0}) B) (f : F) (u : B → ℕ) 
 
   pub entries_made : (ys : List B) (n : ℕ) → IsFromFnResult g f ys n → (k : ℕ) (d : B) → k < n → u (get_or ys k d) ≡ at k
   entries_made ys n r k d h = let z : 0 + k ≡ k = omega arith in rw z at (entries_from ys 0 n r.each k d h)
-
-  pub list_made : (ys : List B) (n a : ℕ) (of : ℕ → ℕ) → IsFromFnResult g f ys n → ((k : ℕ) → at k ≡ of (a + k)) → map u ys ≡ map of (range_with_len a n)
-  list_made [] n a of r e = ap (λ m. map of (range_with_len a m)) r.long
-  list_made (y ∷ ys) n a of r e =
-      let sized : length (map u (y ∷ ys)) ≡ n = length-map (y ∷ ys) u ∙ r.long in
-      same_number_lists (map u (y ∷ ys)) (map of (range_with_len a n)) (sized ∙ sym (length-map-range_with_len of a n))
-      (λ k h. get_or-map u (y ∷ ys) k y 0 (omega (arith, length-map (y ∷ ys) u))
-      ∙ entries_made (y ∷ ys) n r k y (omega (arith, sized)) ∙ e k ∙ sym (get_or-map-range_with_len of a n k (a + k) 0 (omega (arith, sized)) refl))

@@ -1,5 +1,5 @@
 // Reed-Solomon codes over GF(128), by their generators.
-ghost use Rattle.std.specs.Prelude.{◌≡◌, ◌+◌, ◌≤◌, replicate};
+ghost use Rattle.std.specs.Prelude.{◌≡◌, ◌+◌, ◌≤◌, Decides, length, replicate, take};
 ghost use Rattle.reed_solomon.specs.Generators.{generator_of};
 ghost use Rattle.reed_solomon.specs.Theorems.{WordsByRoots};
 ghost use Rattle.reed_solomon.specs.Words.{Symbols, divide_step, divided, word_of};
@@ -64,6 +64,17 @@ impl<const ROOTS: usize, const MESSAGE: usize, const WORD: usize> ReedSolomon<
             rest = self.step(rest, SevenBit::of(*symbol));
         }
         rest
+    }
+
+    // Whether the symbols are a word: behind the message stands its remainder.
+    pub(crate) fn is_word(&self, symbols: &[u8]) -> bool
+        requires size { length symbols.now ≡ WORD }
+        requires below { Symbols symbols.now }
+        ensures { Decides result (symbols.now ≡ word_of (generator_of ROOTS) (take MESSAGE symbols.now)) }
+    {
+        let (message, checks) = symbols.split_at(MESSAGE);
+        let rest = self.remainder(Polynomial::new(message));
+        rest.as_slice() == checks
     }
 }
 

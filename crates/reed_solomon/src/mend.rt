@@ -1,18 +1,16 @@
-// Mending one wrong symbol by the values at the roots.
-ghost use Rattle.std.specs.Prelude.{◌≡◌, ℕ, ◌+◌, ◌-◌, ◌<◌, ◌≤◌, List, length, map, take, MatchBool, MatchOption, MatchResult};
-ghost use Rattle.std.specs.List.{range_with_len};
+// Mending one wrong symbol by the values at α and α^2.
+ghost use Rattle.std.specs.Prelude.{◌≡◌, ℕ, ◌+◌, ◌-◌, ◌<◌, ◌≤◌, List, length, MatchOption, MatchResult};
 ghost use Rattle.std.proofs.Common.{arith};
 ghost use Rattle.codes.specs.Mending.{Within};
-ghost use Rattle.reed_solomon.specs.Errors.{RootsWith, StepsBy, changed};
+ghost use Rattle.reed_solomon.specs.Errors.{OneWrong, OnlyNear, changed};
 ghost use Rattle.reed_solomon.specs.Generators.{generator_of};
-ghost use Rattle.reed_solomon.specs.Words.{Roots, value_at, word_of};
+ghost use Rattle.reed_solomon.specs.Words.{Symbols, value_at, word_of};
 
 use crate::code::ReedSolomon;
 use crate::field::{power, product, ratio, sum};
 use crate::polynomials::Polynomial;
 use codes::seven::SevenBit;
 use codes::words::{BeyondReach, MendingCode, SendingCode};
-use std::array;
 
 // One wrong symbol: its place, counted from the end, and what to add to it.
 #[derive(Clone, Copy)]
@@ -22,78 +20,36 @@ struct WrongSymbol {
 }
 
 impl WrongSymbol {
-    // Writes the front of the symbols given, with the error added at its place.
-    fn write_mended(self, given: Polynomial, message: &mut [u8])
-        requires place { self.place < length given.coefficients.now }
-        requires room { length message.old ≤ length given.coefficients.now }
-        ensures { message.new ≡ take (length message.old) (changed given.entry.coefficients.now self.place self.error.number) }
+    // The one that gives the values at α and α^2, and none where the first of them is 0.
+    fn by_values(given: Polynomial) -> Result<Option<Self>, BeyondReach>
+        requires { length given.coefficients.now ≤ 127 }
+        ensures { MatchResult result (λ o. MatchOption o (value_at 1 given.entry.coefficients.now ≡ 0) (λ w. OneWrong 2 given.entry.coefficients.now w.place w.error.number)) (λ _. (0 < value_at 1 given.entry.coefficients.now) × ((p e : ℕ) → OneWrong 2 given.entry.coefficients.now p e → ⊥)) }
     {
-        let k = message.len();
-        message.copy_from_slice(&given.as_slice()[..k]);
-        let at = given.len() - 1 - self.place;
-        if at < k {
-            message[at] = sum(given.coefficient(at), self.error).number();
+        let first = given.value_at(1);
+        if first.number() == 0 {
+            return Ok(None);
         }
-    }
-}
-
-// The symbols given, with their values at the roots α … α^ROOTS.
-#[derive(Drop)]
-struct Values<'a, const ROOTS: usize> {
-    given: Polynomial<'a>,
-    at_roots: [SevenBit; ROOTS],
-    ghost two: { 2 ≤ ROOTS },
-    ghost values: { map (λ v. v.number) at_roots ≡ map (λ j. value_at j given.coefficients.now) (range_with_len 1 ROOTS) },
-}
-
-impl<'a, const ROOTS: usize> Values<'a, ROOTS> {
-    fn of(given: Polynomial<'a>) -> Self
-        requires { 2 ≤ ROOTS }
-        ensures { result.given.coefficients.now ≡ given.entry.coefficients.now }
-    {
-        Values {
-            given,
-            at_roots: array::from_fn(|j| given.value_at(j + 1)),
-        }
-    }
-
-    // The value at α^j.
-    fn at(&self, j: usize) -> SevenBit
-        requires some { 1 ≤ j }
-        requires root { j ≤ ROOTS }
-        ensures { result.number ≡ value_at j self.now.given.coefficients.now }
-    {
-        self.at_roots.as_slice()[j - 1]
-    }
-
-    // Whether the value goes up by α^place from each of the roots to the next.
-    fn steps_by(&self, place: usize) -> bool
-        ensures { MatchBool result (StepsBy ROOTS self.now.given.coefficients.now place) (StepsBy ROOTS self.now.given.coefficients.now place → ⊥) }
-    {
-        let step = power(place);
-        let values = self.at_roots.as_slice();
-        values
-            .iter()
-            .zip(values[1..].iter())
-            .all(|(value, next)| *next == product(*value, step))
-    }
-
-    // The place, counted from the end, of the one wrong symbol that gives the values.
-    fn wrong_place(&self) -> Option<usize>
-        requires short { length self.now.given.coefficients.now ≤ 127 }
-        requires wrong { 0 < value_at 1 self.now.given.coefficients.now }
-        ensures { MatchOption result ((p : ℕ) → p < length self.now.given.coefficients.now → StepsBy ROOTS self.now.given.coefficients.now p → ⊥) (λ p. (p < length self.now.given.coefficients.now) × StepsBy ROOTS self.now.given.coefficients.now p) }
-    {
-        let second = self.at(2);
+        let second = given.value_at(2);
         if second.number() == 0 {
-            return None;
+            return Err(BeyondReach);
         }
-        let place = ratio(self.at(1), second);
-        if place < self.given.len() && self.steps_by(place) {
-            Some(place)
-        } else {
-            None
+        let place = ratio(first, second);
+        if place >= given.len() {
+            return Err(BeyondReach);
         }
+        let error = product(first, power(127 - place));
+        Ok(Some(WrongSymbol { place, error }))
+    }
+
+    // Adds the error at its place.
+    #[tactic(auto, using(crate::specs::ValuesLemmas::symbols_at))]
+    fn mend(self, word: &mut [u8])
+        requires place { self.place < length word.old }
+        requires below { Symbols word.old }
+        ensures { word.new ≡ changed word.old self.place self.error.number }
+    {
+        let at = word.len() - 1 - self.place;
+        word[at] = sum(SevenBit::of(word[at]), self.error).number();
     }
 }
 
@@ -102,24 +58,20 @@ impl<const ROOTS: usize, const MESSAGE: usize, const WORD: usize> ReedSolomon<
     MESSAGE,
     WORD,
 > {
-    // The one wrong symbol without which the values at the roots are 0, and none where they are 0.
-    fn wrong_symbol(&self, given: Polynomial) -> Result<Option<WrongSymbol>, BeyondReach>
-        requires { length given.coefficients.now ≡ WORD }
-        ensures { MatchResult result (λ o. MatchOption o (Roots ROOTS given.entry.coefficients.now) (λ w. RootsWith ROOTS given.entry.coefficients.now w.place w.error.number)) (λ _. (m : List ℕ) (e : ℕ) → Within (λ x. x) MESSAGE (word_of (generator_of ROOTS)) 1 given.entry.coefficients.now m e → ⊥) }
+    // Makes of the symbols the only ones within one place that may be a word,
+    // and answers in how many places these differ.
+    fn mend_one(&self, symbols: &mut [u8]) -> Result<usize, BeyondReach>
+        requires size { length symbols.old ≡ WORD }
+        requires below { Symbols symbols.old }
+        ensures { MatchResult result (λ n. OnlyNear ROOTS MESSAGE 1 symbols.old symbols.new n) (λ _. (m : List ℕ) (e : ℕ) → Within (λ x. x) MESSAGE (word_of (generator_of ROOTS)) 1 symbols.old m e → ⊥) }
     {
-        let values = Values::<ROOTS>::of(given);
-        let first = values.at(1);
-        if first.number() == 0 {
-            // the others are 0 too where they do not change
-            return if values.steps_by(0) {
-                Ok(None)
-            } else {
-                Err(BeyondReach)
-            };
+        match WrongSymbol::by_values(Polynomial::new(symbols))? {
+            None => Ok(0),
+            Some(wrong) => {
+                wrong.mend(symbols);
+                Ok(1)
+            }
         }
-        let place = values.wrong_place().ok_or(BeyondReach)?;
-        let error = product(first, power(127 - place));
-        Ok(Some(WrongSymbol { place, error }))
     }
 }
 
@@ -130,16 +82,14 @@ impl<const ROOTS: usize, const MESSAGE: usize, const WORD: usize> MendingCode
     ghost unique = { λ c. omega arith };
 
     fn mend(&self, given: &[u8], message: &mut [u8]) -> Result<usize, BeyondReach> {
-        let given = Polynomial::new(given);
-        match self.wrong_symbol(given)? {
-            None => {
-                message.copy_from_slice(&given.as_slice()[..MESSAGE]);
-                Ok(0)
-            }
-            Some(wrong) => {
-                wrong.write_mended(given, message);
-                Ok(1)
-            }
+        let mut word = [0; WORD];
+        word.copy_from_slice(given);
+        let mended = self.mend_one(&mut word)?;
+        // the values at the other roots may still be of no word
+        if !self.is_word(&word) {
+            return Err(BeyondReach);
         }
+        message.copy_from_slice(&word[..MESSAGE]);
+        Ok(mended)
     }
 }
