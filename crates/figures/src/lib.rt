@@ -19,6 +19,12 @@ use reed_solomon::streams::{mis as mis_code, tis as tis_code};
 
 #[cfg(test)]
 mod checks;
+#[cfg(test)]
+mod neighbours;
+#[cfg(test)]
+mod rows;
+#[cfg(test)]
+mod words;
 
 // The MIS that is printed step by step. That the printed figures hold of the definitions is shown with it, all by one proof.
 pub fn printed_mis() -> MisTrace

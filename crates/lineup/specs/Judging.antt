@@ -3,6 +3,7 @@ use Rattle.std.specs.Prelude.{◌≡◌, List, Some, None, Ok, Err, vec_items, O
 use Rattle.refusals.specs.declared.Refusal.{Refusal}
 use Rattle.modes.specs.Modes.{data_number, occupancy_number, rate_number, tis_number}
 use Rattle.staircase.specs.declared.code.Staircase.{Staircase}
+use Rattle.staircase.specs.declared.exponents.Exponents.{Exponents}
 use Rattle.staircase.specs.declared.shape.Shape.{Shape}
 use Rattle.lineup.specs.declared.asked.Asked.{Asked as AskedParts}
 use Rattle.lineup.specs.declared.kind.CellKind.{CellKind}
@@ -24,9 +25,9 @@ Names m a =
 abbrev pub Forms : Shape → Asked → Type 0
 Forms s a = (s.lift ≡ a.lift) × (s.rows ≡ a.rows) × (s.columns ≡ a.columns)
 
--- the mode and the shape of what passes all eight, or the refusal
-abbrev pub Judged : Asked → Result (Mode × Shape) Refusal → Type 0
-Judged a (Ok p) = Pass8 a × Names p.0 a × Forms p.1 a
+-- the mode and the exponents of what passes all eight, or the refusal
+abbrev pub Judged : Asked → Result (Mode × Exponents) Refusal → Type 0
+Judged a (Ok p) = Pass8 a × Names p.0 a × Forms p.1.shape a × (p.1.values.now ≡ a.exponents)
 Judged a (Err refusal) = Refuses a refusal
 
 -- what a line-up holds, by its parts: nothing where it has no mode

@@ -1,5 +1,6 @@
 -- A line-up: the mode of a frame, what each of its cells carries, and the code of its data. What may be asked of one, and why it is refused.
-use Rattle.std.specs.Prelude.{◌≡◌, ℕ, ◌+◌, ◌*◌, ◌/◌, ◌%◌, ◌<◌, ◌≤◌, Bool, true, false, cond, ◌&&◌, List, [], ◌∷◌, length, ℤ, pos, negsuc, ◌≤ℤ◌, ◌<ℤ◌, Some, Ok, Err, count_by, Option, Result, ◌==◌, nat_eq, nat_le, nat_lt, slice_index, slice_index_or}
+use Rattle.std.specs.Prelude.{◌≡◌, ℕ, ◌+◌, ◌*◌, ◌/◌, ◌%◌, ◌<◌, ◌≤◌, Bool, true, false, cond, ◌&&◌, List, [], ◌∷◌, length, ℤ, Some, Ok, Err, count_by, Option, Result, ◌==◌, nat_eq, nat_le, nat_lt, slice_index}
+use Rattle.staircase.specs.Staircase.{BadExponent, ExponentsKnown}
 use Rattle.refusals.specs.declared.Refusal.{Refusal}
 use Rattle.refusals.specs.declared.Refusal.TheVariants.{ModeOutOfRange, PlanLength, PlanByte, FewStreamCells, CodeShape, ExponentOutOfRange, BlockLength, FewDataCells}
 
@@ -66,18 +67,6 @@ code_shaped rate lift rows columns count =
     && ((nat_le 1 rows && nat_le rows 16)
     && ((nat_le 1 columns && nat_le columns 24)
     && (columns == columns_for rate rows && count == rows * columns)))
-
--- an exponent is −1 or from 0 to L − 1
-abbrev pub InRange : ℕ → ℤ → Type 0
-InRange lift exponent = (negsuc 0 ≤ℤ exponent) × (exponent <ℤ pos lift)
-
--- 6: each exponent is in range
-abbrev pub ExponentsKnown : ℕ → List ℤ → Type 0
-ExponentsKnown lift exponents = (k : ℕ) → k < length exponents → InRange lift (slice_index_or exponents k (pos 0))
-
--- a place with an exponent out of range
-abbrev pub BadExponent : ℕ → List ℤ → ℕ → Type 0
-BadExponent lift exponents place = (place < length exponents) × (InRange lift (slice_index_or exponents place (pos 0)) → ⊥)
 
 -- 7: the block is of whole bytes, 7 or more
 abbrev pub block_fits : (constellation lift columns : ℕ) → Bool

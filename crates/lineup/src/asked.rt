@@ -1,13 +1,15 @@
 // What is asked of a line-up, and whether it may be.
-ghost use Rattle.std.specs.Prelude.{◌≡◌, false, true, length, MatchOption, MatchResult};
+ghost use Rattle.std.specs.Prelude.{◌≡◌, ◌*◌, false, true, MatchOption, MatchResult};
 ghost use Rattle.modes.specs.Modes.{rate_number};
+ghost use Rattle.lineup.specs.Faults.{refusal_for};
 ghost use Rattle.lineup.specs.LineUps.{code_shaped, mode_known};
 
 use crate::cells::{bad_byte, frame_cells, streams_fit};
 use crate::mode::Mode;
-use crate::shape::{bad_exponent, block_fits, columns_for, data_fits};
+use crate::shape::{block_fits, columns_for, data_fits};
 use modes::{DataConstellation, Occupancy, Rate, TisConstellation, UnknownNumber};
 use refusals::Refusal;
+use staircase::exponents::{Exponents, ExponentsFault};
 use staircase::shape::Shape;
 
 // The numbers of the mode, a byte for each cell, and the numbers of the data code. Any numbers may be asked for.
@@ -24,7 +26,17 @@ pub struct Asked<'a> {
     pub exponents: &'a [i16],
 }
 
-impl Asked<'_> {
+// Why exponents are refused.
+fn refusal_for(fault: ExponentsFault) -> Refusal
+    ensures { result ≡ refusal_for fault }
+{
+    match fault {
+        ExponentsFault::Count => Refusal::CodeShape,
+        ExponentsFault::OutOfRange(place) => Refusal::ExponentOutOfRange(place),
+    }
+}
+
+impl<'a> Asked<'a> {
     ghost use Rattle.lineup.specs.Judging.{asked_by, Forms, Judged, Names};
 
     // The mode of the four numbers, where each is in range.
@@ -41,20 +53,19 @@ impl Asked<'_> {
 
     // The shape of the code, where its numbers are in range and fit one another.
     fn shape(&self, rate: Rate) -> Option<Shape>
-        ensures { let a = asked_by self.now in let fits = code_shaped (rate_number rate) a.lift a.rows a.columns (length a.exponents) in MatchOption result (fits ≡ false) (λ s. (fits ≡ true) × Forms s a) }
+        ensures { let a = asked_by self.now in let fits = code_shaped (rate_number rate) a.lift a.rows a.columns (a.rows * a.columns) in MatchOption result (fits ≡ false) (λ s. (fits ≡ true) × Forms s a) }
     {
         let shape = Shape::new(
             self.lift as usize,
             self.rows as usize,
             self.columns as usize,
         )?;
-        let columns = columns_for(rate, shape.rows());
-        let fits = shape.columns() == columns && shape.exponents() == self.exponents.len();
+        let fits = shape.columns() == columns_for(rate, shape.rows());
         fits.then_some(shape)
     }
 
-    // The mode and the shape of the code that are asked for, or why that is refused: the first reason that holds.
-    pub(crate) fn judge(&self) -> Result<(Mode, Shape), Refusal>
+    // The mode and the exponents of the code that are asked for, or why that is refused: the first reason that holds.
+    pub(crate) fn judge(&self) -> Result<(Mode, Exponents<'a>), Refusal>
         ensures { Judged (asked_by self.now) result }
     {
         let mode = self.mode().map_err(|_| Refusal::ModeOutOfRange)?;
@@ -68,15 +79,13 @@ impl Asked<'_> {
             return Err(Refusal::FewStreamCells);
         }
         let shape = self.shape(mode.rate).ok_or(Refusal::CodeShape)?;
-        if let Some(place) = bad_exponent(self.exponents, shape) {
-            return Err(Refusal::ExponentOutOfRange(place));
-        }
+        let exponents = Exponents::new(shape, self.exponents).map_err(refusal_for)?;
         if !block_fits(mode.data, shape) {
             return Err(Refusal::BlockLength);
         }
         if !data_fits(shape, self.plan) {
             return Err(Refusal::FewDataCells);
         }
-        Ok((mode, shape))
+        Ok((mode, exponents))
     }
 }

@@ -32,9 +32,9 @@ impl LineUp {
     pub fn fill(&mut self, asked: Asked<'_>) -> Result<(), Refusal>
         ensures { Filled (view_of self.old) (view_of self.new) (asked_by asked.entry) result }
     {
-        let (mode, shape) = asked.judge()?;
+        let (mode, exponents) = asked.judge()?;
         write_plan(asked.plan, &mut self.plan);
-        self.code.fill(shape, asked.exponents);
+        self.code.fill(exponents);
         self.mode = Some(mode);
         Ok(())
     }

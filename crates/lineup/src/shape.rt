@@ -1,7 +1,7 @@
 // What the shape of the data code asks of a frame.
-ghost use Rattle.std.specs.Prelude.{◌≡◌, ◌≤◌, Decides, MatchOption};
+ghost use Rattle.std.specs.Prelude.{◌≡◌, ◌≤◌};
 ghost use Rattle.modes.specs.Modes.{data_number, rate_number};
-ghost use Rattle.lineup.specs.LineUps.{BadExponent, ExponentsKnown, InRange, block_fits, columns_for, data_fits, data_words};
+ghost use Rattle.lineup.specs.LineUps.{block_fits, columns_for, data_fits, data_words};
 
 use crate::cells::count;
 use crate::kind::CellKind;
@@ -17,22 +17,6 @@ pub(crate) fn columns_for(rate: Rate, rows: usize) -> usize
         Rate::Half => rows,
         Rate::ThreeQuarters => 3 * rows,
     }
-}
-
-// Whether an exponent is in range.
-fn in_range(exponent: i16, shape: Shape) -> bool
-    ensures { Decides result (InRange shape.lift exponent) }
-{
-    (-1..shape.lift() as i16).contains(&exponent)
-}
-
-// The place of an exponent that is out of range, if there is one.
-pub(crate) fn bad_exponent(exponents: &[i16], shape: Shape) -> Option<usize>
-    ensures { MatchOption result (ExponentsKnown shape.lift exponents.now) (λ place. BadExponent shape.lift exponents.now place) }
-{
-    exponents
-        .iter()
-        .position(|exponent| !in_range(*exponent, shape))
 }
 
 // The data words of a frame.

@@ -11,11 +11,21 @@ Lifted lift = (1 ≤ lift) × (lift ≤ 160)
 abbrev pub Shaped : (rows columns : ℕ) → Type 0
 Shaped rows columns = (1 ≤ rows) × (rows ≤ 16) × (columns ≤ 24) × ((columns == rows || columns == 3 * rows) ≡ true)
 
--- there are M × K exponents, each −1 or from 0 to L − 1
+-- an exponent is −1 or from 0 to L − 1
+abbrev pub InRange : ℕ → ℤ → Type 0
+InRange lift exponent = (negsuc 0 ≤ℤ exponent) × (exponent <ℤ pos lift)
+
+-- each exponent is in range
+abbrev pub ExponentsKnown : ℕ → List ℤ → Type 0
+ExponentsKnown lift exponents = (k : ℕ) → k < length exponents → InRange lift (slice_index_or exponents k (pos 0))
+
+-- a place with an exponent out of range
+abbrev pub BadExponent : ℕ → List ℤ → ℕ → Type 0
+BadExponent lift exponents place = (place < length exponents) × (InRange lift (slice_index_or exponents place (pos 0)) → ⊥)
+
+-- there are M × K exponents, each in range
 abbrev pub Filled : (lift rows columns : ℕ) → List ℤ → Type 0
-Filled lift rows columns exponents =
-    (length exponents ≡ rows * columns)
-    × ((k : ℕ) → k < length exponents → (negsuc 0 ≤ℤ slice_index_or exponents k (pos 0)) × (slice_index_or exponents k (pos 0) <ℤ pos lift))
+Filled lift rows columns exponents = (length exponents ≡ rows * columns) × ExponentsKnown lift exponents
 
 -- the sum of two bits, modulo 2
 infixl 65 ◌⊕◌

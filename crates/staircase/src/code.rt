@@ -2,6 +2,7 @@
 ghost use Rattle.std.specs.Prelude.{◌≡◌, ◌≤◌, [], ◌∷◌, negsuc, IfOk, vec_capacity};
 ghost use Rattle.staircase.specs.Staircase.{Filled};
 
+use crate::exponents::Exponents;
 use crate::shape::{COLUMNS, ROWS, Shape};
 use std::alloc::{AllocError, Global};
 
@@ -35,16 +36,15 @@ impl Staircase {
         })
     }
 
-    // Makes this the code with the shape and the exponents given.
-    pub fn fill(&mut self, shape: Shape, exponents: &[i16])
-        requires { Filled shape.lift shape.rows shape.columns exponents.now }
-        ensures shape { self.new.shape ≡ shape }
-        ensures exponents { self.new.exponents.items ≡ exponents.now }
+    // Makes this the code with the exponents given.
+    pub fn fill(&mut self, exponents: Exponents<'_>)
+        ensures shape { self.new.shape ≡ exponents.entry.shape }
+        ensures exponents { self.new.exponents.items ≡ exponents.entry.values.now }
     {
         self.exponents.clear();
         // there is room, so this does not fail
-        let _ = self.exponents.extend_from_slice(exponents);
-        self.shape = shape;
+        let _ = self.exponents.extend_from_slice(exponents.values);
+        self.shape = exponents.shape;
     }
 }
 

@@ -10,12 +10,14 @@ use crate::shape::{LIFT, ROWS};
 const CHECKS: usize = ROWS * LIFT;
 
 impl Staircase {
-    // Whether every check of the bits holds, which is so exactly where they are a word of the code.
+    // Whether there are as many bits as a word has, and every check of theirs holds, which is so exactly where they are a word of the code.
     pub fn checks_hold(&self, bits: &[bool]) -> bool
-        requires { length bits.now ≡ word_size self.now }
-        ensures checks { Decides result (HoldIn self.now bits.now) }
-        ensures words { Exactly (HoldIn self.now bits.now) (WordIn self.now bits.now) }
+        ensures checks { Decides result ((length bits.now ≡ word_size self.now) × HoldIn self.now bits.now) }
+        ensures words { length bits.now ≡ word_size self.now → Exactly (HoldIn self.now bits.now) (WordIn self.now bits.now) }
     {
+        if bits.len() != self.shape.word_length() {
+            return false;
+        }
         let (message, checks) = bits.split_at(self.shape.message_length());
         let mut store = [false; CHECKS];
         let groups = &mut store[..checks.len()];

@@ -1,4 +1,4 @@
-use Rattle.std.proofs.Common.{Some, vec_items, arith, rules}
+use Rattle.std.proofs.Common.{Some, vec_items, ◌∙◌, arith, rules}
 use Rattle.lineup.specs.Judging.{Forms, asked_by, held}
 use Rattle.lineup.specs.LineUps.{Pass8}
 use Rattle.lineup.proofs.Sizes.{whole_le}
@@ -19,5 +19,5 @@ invariant_of-self c =
     let plan = vec_items c.write_plan.new.plan in
     let code = c.fill.new.self in
     let forms : Forms code.shape a = search rules in
-    let same = held_is mode plan code a judged.1 forms c.write_plan.ensures.kinds c.fill.ensures.exponents in
+    let same = held_is mode plan code a judged.1 forms c.write_plan.ensures.kinds (c.fill.ensures.exponents ∙ judged.3) in
     record { passed = holds (held (Some mode) plan code) a Pass8 same judged.0; room = omega arith }
