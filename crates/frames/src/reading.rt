@@ -1,8 +1,14 @@
 // Reading a frame.
 ghost use Rattle.std.specs.Prelude.{◌≡◌, ◌*◌, ◌/◌, ◌≤◌, length};
-ghost use Rattle.lineup.specs.Layouts.{Roomy, block_length_of};
+ghost use Rattle.lineup.specs.Layouts.{block_length_of, kind_count};
 ghost use Rattle.frames.specs.Frames.{sending};
-ghost use Rattle.frames.specs.Laying.{cells_in};
+ghost use Rattle.cells.specs.declared.cell.Order.TheVariants.{Four};
+ghost use Rattle.lineup.specs.declared.kind.CellKind.TheVariants.{Mis as MisKind, Tis as TisKind};
+ghost use Rattle.modes.specs.Modes.{tis_count};
+ghost use Rattle.modem.specs.MisStream.{MisAnswer};
+ghost use Rattle.modem.specs.TisStream.{TisAnswer};
+ghost use Rattle.frames.specs.Laying.{cells_in, picked};
+ghost use Rattle.frames.specs.Hearing.{HearsMis, HearsTis};
 ghost use Rattle.frames.specs.Reading.{BlockAsSent, BlockTold, FrameAnswer, HasFrame, mending, ModeAsSent, ModeTold, ReadsSent, StationAsSent, StationTold};
 ghost use Rattle.frames.specs.Tellings.{told};
 
@@ -18,8 +24,8 @@ use codes::words::MendingCode;
 use lineup::kind::CellKind;
 use lineup::layout::Layout;
 use lineup::mode::Mode;
-use modem::{Reading, read_mis, read_tis};
-use modes::Station;
+use modem::{Reading, StreamFault, read_mis, read_tis};
+use modes::{Mis, Station, Tis, TisConstellation};
 use packets::{Packet, read_packet};
 
 // The symbols mended in the streams whose codes mend.
@@ -45,6 +51,32 @@ impl<
     B: Constellation,
     C: Constellation,
 > Channel<M, T, A, B, C> {
+    // What the MIS states.
+    fn hear_mis(&self, received: ReceivedCells<'_>) -> Result<Reading<Mis>, StreamFault>
+        requires { 14 ≤ kind_count MisKind received.plan.now }
+        ensures answer { MisAnswer (M.SendingCode.word self.now.mis) (M.MendingCode.reach self.now.mis) (A.Constellation.decided self.now.mis_points Four) (picked MisKind received.entry.plan.now (cells_in received.entry.numbers.now)) result }
+        ensures as_sent { HearsMis (M.SendingCode.word self.now.mis) (M.MendingCode.reach self.now.mis) (A.Constellation.point self.now.mis_points Four) (A.Constellation.decided self.now.mis_points Four) (picked MisKind received.entry.plan.now (cells_in received.entry.numbers.now)) result }
+    {
+        let mut cells = [Cell::ORIGIN; 14];
+        received.gather(CellKind::Mis, &mut cells);
+        read_mis(&self.mis, &self.mis_points, &cells)
+    }
+
+    // What the TIS states.
+    fn hear_tis(
+        &self,
+        constellation: TisConstellation,
+        received: ReceivedCells<'_>,
+    ) -> Result<Reading<Tis>, StreamFault>
+        requires { tis_count constellation ≤ kind_count TisKind received.plan.now }
+        ensures answer { TisAnswer (T.SendingCode.word self.now.tis) (T.MendingCode.reach self.now.tis) (B.Constellation.decided self.now.tis_points) constellation (picked TisKind received.entry.plan.now (cells_in received.entry.numbers.now)) result }
+        ensures as_sent { HearsTis (T.SendingCode.word self.now.tis) (T.MendingCode.reach self.now.tis) (B.Constellation.point self.now.tis_points) (B.Constellation.decided self.now.tis_points) constellation (picked TisKind received.entry.plan.now (cells_in received.entry.numbers.now)) result }
+    {
+        let mut cells = [Cell::ORIGIN; 102];
+        received.gather(CellKind::Tis, &mut cells[..constellation.cell_count()]);
+        read_tis(&self.tis, &self.tis_points, constellation, &cells)
+    }
+
     // The symbols mended in the MIS, which is to state the mode.
     fn read_mode<D: MendingCode<Symbol = bool>>(
         &self,
@@ -55,9 +87,7 @@ impl<
         ensures told { ModeTold (sending (M.SendingCode.word self.now.mis) (T.SendingCode.word self.now.tis) (D.SendingCode.word layout.now.code.now) (A.Constellation.point self.now.mis_points) (B.Constellation.point self.now.tis_points) (C.Constellation.point self.now.data_points) (D.SendingCode.message_length layout.now.code.now) (D.SendingCode.word_length layout.now.code.now)) (mending (M.MendingCode.reach self.now.mis) (T.MendingCode.reach self.now.tis) (D.MendingCode.reach layout.now.code.now) (A.Constellation.decided self.now.mis_points) (B.Constellation.decided self.now.tis_points) (C.Constellation.decided self.now.data_points)) layout.now.plan.now layout.now.mode (cells_in received.entry.numbers.now) result }
         ensures as_sent { ModeAsSent (sending (M.SendingCode.word self.now.mis) (T.SendingCode.word self.now.tis) (D.SendingCode.word layout.now.code.now) (A.Constellation.point self.now.mis_points) (B.Constellation.point self.now.tis_points) (C.Constellation.point self.now.data_points) (D.SendingCode.message_length layout.now.code.now) (D.SendingCode.word_length layout.now.code.now)) (mending (M.MendingCode.reach self.now.mis) (T.MendingCode.reach self.now.tis) (D.MendingCode.reach layout.now.code.now) (A.Constellation.decided self.now.mis_points) (B.Constellation.decided self.now.tis_points) (C.Constellation.decided self.now.data_points)) layout.now.plan.now layout.now.mode (cells_in received.entry.numbers.now) result }
     {
-        let mut cells = [Cell::ORIGIN; 14];
-        received.gather(CellKind::Mis, &mut cells);
-        let mis = read_mis(&self.mis, &self.mis_points, &cells).map_err(FrameFault::Mis)?;
+        let mis = self.hear_mis(received).map_err(FrameFault::Mis)?;
         if mis.stated != layout.mode().mis() {
             return Err(FrameFault::OtherMode(mis.stated));
         }
@@ -75,9 +105,7 @@ impl<
         ensures as_sent { StationAsSent (sending (M.SendingCode.word self.now.mis) (T.SendingCode.word self.now.tis) (D.SendingCode.word layout.now.code.now) (A.Constellation.point self.now.mis_points) (B.Constellation.point self.now.tis_points) (C.Constellation.point self.now.data_points) (D.SendingCode.message_length layout.now.code.now) (D.SendingCode.word_length layout.now.code.now)) (mending (M.MendingCode.reach self.now.mis) (T.MendingCode.reach self.now.tis) (D.MendingCode.reach layout.now.code.now) (A.Constellation.decided self.now.mis_points) (B.Constellation.decided self.now.tis_points) (C.Constellation.decided self.now.data_points)) layout.now.plan.now layout.now.mode (cells_in received.entry.numbers.now) result }
     {
         let mode = layout.mode();
-        let mut cells = [Cell::ORIGIN; 102];
-        received.gather(CellKind::Tis, &mut cells[..mode.tis.cell_count()]);
-        let tis = read_tis(&self.tis, &self.tis_points, mode.tis, &cells).map_err(FrameFault::Tis)?;
+        let tis = self.hear_tis(mode.tis, received).map_err(FrameFault::Tis)?;
         if tis.stated.coding != mode.coding() {
             return Err(FrameFault::OtherDataCoding);
         }

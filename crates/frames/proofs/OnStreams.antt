@@ -1,0 +1,85 @@
+-- What is decided of a stream's first cells is what is decided of all. Assumes nothing.
+use Rattle.std.proofs.Common.{◌≡◌, ℕ, ◌*◌, ◌≤◌, Bool, List, [], ◌∷◌, ◌++◌, length, take, drop, Ok, Err, Result, refl, sym, ap, ◌∙◌, subst, mul-suc, mul-zero, length-append, ℤ, arith}
+use Rattle.std.proofs.lemmas.Int.{ints}
+use Rattle.std.proofs.lemmas.List.{append-nil, length-take-le, take-append-drop}
+use Rattle.std.proofs.lemmas.Grind.{flat_map-append}
+use Rattle.std.proofs.Math.Seq.{take-append_seam}
+use Rattle.codes.specs.Mending.{Within}
+use Rattle.codes.specs.Symbols.{differing, Below128}
+use Rattle.bits.specs.Bits.{cut}
+use Rattle.cells.specs.Cells.{Steady, apart}
+use Rattle.cells.specs.Mapping.{decided_bits, Moved}
+use Rattle.cells.specs.declared.cell.Cell.{Cell}
+use Rattle.streams.specs.declared.records.BadRecord.{BadRecord}
+use Rattle.modem.specs.Carrying.{cells_of, message_of, symbols_of}
+use Rattle.modem.specs.Reading.{ReadsBack, StreamAnswer, wrong_symbols}
+use Rattle.modem.specs.declared.carrying.Reading.{Reading}
+use Rattle.modem.specs.declared.fault.StreamFault.{StreamFault}
+use Rattle.modem.specs.declared.fault.StreamFault.TheVariants.{Reach, Record}
+use Rattle.lineup.specs.Layouts.{kind_count}
+use Rattle.lineup.specs.declared.kind.CellKind.{CellKind}
+use Rattle.frames.specs.Laying.{cells_in, picked}
+use Rattle.frames.proofs.OnPlans.{length_cells, length_picked}
+use Rattle.modem.proofs.Carries.{cut_front, symbols_near}
+
+module _ (decided : Cell → List Bool) (width : ℕ) (sized : (x : Cell) → length (decided x) ≡ width) where
+  pub length-decided : (cells : List Cell) → length (decided_bits decided cells) ≡ width * length cells
+  length-decided [] = rw mul-zero
+  length-decided (x ∷ cells) = rw (length-append, sized, length-decided cells) (omega (arith, mul-suc width (length cells)))
+
+  -- symbols are cut from the first bits
+  cut_seam : (n : ℕ) (front back : List Bool) → n * 7 ≤ length front → cut 7 n (front ++ back) ≡ cut 7 n front
+  cut_seam n front back h =
+      sym (cut_front 7 n (length front) (front ++ back) h) ∙ ap (cut 7 n) (take-append_seam front back)
+
+  -- the first `count` cells, whatever stands behind them
+  pub symbols_front : (n count : ℕ) (xs ys : List Cell) → n * 7 ≤ width * count → count ≤ length xs → symbols_of decided n (take count xs ++ ys) ≡ symbols_of decided n xs
+  symbols_front n count xs ys room few =
+      let front = decided_bits decided (take count xs) in
+      let long : n * 7 ≤ length front = rw (length-decided (take count xs), length-take-le count xs few) room in
+      let one : symbols_of decided n (take count xs ++ ys) ≡ cut 7 n front =
+      ap (cut 7 n) (flat_map-append decided (take count xs) ys) ∙ cut_seam n front (decided_bits decided ys) long in
+      let other : symbols_of decided n xs ≡ cut 7 n front =
+      ap (λ l. symbols_of decided n l) (sym (take-append-drop count xs)) ∙ ap (cut 7 n) (flat_map-append decided (take count xs) (drop count xs)) ∙ cut_seam n front (decided_bits decided (drop count xs)) long in
+      one ∙ sym other
+
+  -- the cells of a kind that a plan's numbers begin with
+  pub first_symbols : (n count : ℕ) (kind : CellKind) (plan : List CellKind) (numbers : List ℤ) (xs ys : List Cell) → length numbers ≡ 2 * length plan → n * 7 ≤ width * count → count ≤ kind_count kind plan →
+      xs ≡ take count (picked kind plan (cells_in numbers)) ++ ys → symbols_of decided n xs ≡ symbols_of decided n (picked kind plan (cells_in numbers))
+  first_symbols n count kind plan numbers xs ys size room few e =
+      let all = picked kind plan (cells_in numbers) in
+      let long = length_picked kind plan (cells_in numbers) (length_cells (length plan) numbers size) in
+      ap (symbols_of decided n) e ∙ symbols_front n count all ys room (omega arith)
+
+-- an answer is about the symbols that are decided
+pub answer_of : (k n : ℕ) (word : List ℕ → List ℕ) (reach : ℕ) (decided : Cell → List Bool) {R : Type 0} (record_bits : R → List Bool) (read_bits : List Bool → Result R BadRecord) (xs ys : List Cell) (r : Result (Reading R) StreamFault) →
+    symbols_of decided n xs ≡ symbols_of decided n ys → StreamAnswer k n word reach decided record_bits read_bits xs r → StreamAnswer k n word reach decided record_bits read_bits ys r
+answer_of k n word reach decided record_bits read_bits xs ys (Ok got) same w = subst (λ s. Within (λ (x : ℕ). x) k word reach s (message_of k (record_bits got.stated)) got.mended) same w
+answer_of k n word reach decided record_bits read_bits xs ys (Err (Reach f)) same none =
+    λ m e w. none m e (subst (λ s. Within (λ (x : ℕ). x) k word reach s m e) (sym same) w)
+answer_of k n word reach decided record_bits read_bits xs ys (Err (Record f)) same found =
+    (found.0, found.1, subst (λ s. Within (λ (x : ℕ). x) k word reach s found.0 found.1) same found.2, found.3)
+
+-- cells that are as they were sent
+none_apart : (a : ℤ) → apart a a ≤ 255
+none_apart a = omega (arith, ints)
+
+pub still : (xs : List Cell) → Moved xs xs
+still [] = tt
+still (x ∷ xs) = ((none_apart x.real, none_apart x.imaginary), still xs)
+
+-- are decided for the word's symbols
+pub sent_symbols : (point : List Bool → Cell) (decided : Cell → List Bool) (width count n : ℕ) (word : List ℕ) → Steady point width decided → length word ≡ n → Below128 (λ (x : ℕ). x) word → n * 7 ≤ width * count →
+    symbols_of decided n (cells_of point width count word) ≡ word
+sent_symbols point decided width count n word steady size below room =
+    symbols_near point decided width count n word (cells_of point width count word) steady size below room (still (cells_of point width count word))
+
+-- what is read back by some cells is heard by others that the same symbols are decided from
+pub heard : (k n : ℕ) (word : List ℕ → List ℕ) (reach : ℕ) (decided : Cell → List Bool) {R : Type 0} (record_bits : R → List Bool) (read_bits : List Bool → Result R BadRecord) (point : List Bool → Cell) (width count : ℕ) (xs ys : List Cell) (r : Result (Reading R) StreamFault) →
+    symbols_of decided n xs ≡ symbols_of decided n ys → ReadsBack k n word reach decided record_bits read_bits point width count xs r → (sent : R) (near : List Cell) →
+    symbols_of decided n near ≡ symbols_of decided n (cells_of point width count (word (message_of k (record_bits sent)))) → wrong_symbols decided n near ys ≤ reach →
+    r ≡ Ok (record { stated = sent; mended = wrong_symbols decided n near ys })
+heard k n word reach decided record_bits read_bits point width count xs ys r same back sent near alike few =
+    let cells = cells_of point width count (word (message_of k (record_bits sent))) in
+    let wrong : wrong_symbols decided n cells xs ≡ wrong_symbols decided n near ys = ap (λ a. differing (λ (x : ℕ). x) a (symbols_of decided n xs)) (sym alike) ∙ ap (differing (λ (x : ℕ). x) (symbols_of decided n near)) same in
+    back sent cells (still cells) (rw wrong few) ∙ ap (λ e. Ok (record { stated = sent; mended = e })) wrong
