@@ -1,5 +1,5 @@
 -- What is decided of a stream's first cells is what is decided of all. Assumes nothing.
-use Rattle.std.proofs.Common.{◌≡◌, ℕ, ◌*◌, ◌≤◌, Bool, List, [], ◌∷◌, ◌++◌, length, take, drop, Ok, Err, Result, refl, sym, ap, ◌∙◌, subst, mul-suc, mul-zero, length-append, ℤ, arith}
+use Rattle.std.proofs.Common.{◌≡◌, ℕ, ◌*◌, ◌≤◌, Bool, List, [], ◌∷◌, ◌++◌, length, take, drop, Ok, Err, Result, refl, sym, ap, ◌∙◌, subst, mul-suc, mul-zero, length-append, ℤ, lit≤, arith}
 use Rattle.std.proofs.lemmas.Int.{ints}
 use Rattle.std.proofs.lemmas.List.{append-nil, length-take-le, take-append-drop}
 use Rattle.std.proofs.lemmas.Grind.{flat_map-append}
@@ -7,7 +7,11 @@ use Rattle.std.proofs.Math.Seq.{take-append_seam}
 use Rattle.codes.specs.Mending.{Within}
 use Rattle.codes.specs.Symbols.{differing, Below128}
 use Rattle.bits.specs.Bits.{cut}
-use Rattle.cells.specs.Cells.{Steady, apart}
+use Rattle.modes.specs.Modes.{tis_count}
+use Rattle.modes.specs.declared.mode.TisConstellation.{TisConstellation}
+use Rattle.modes.specs.declared.mode.TisConstellation.TheVariants.{Qam4, Qam16}
+use Rattle.modem.specs.TisStream.{tis_order}
+use Rattle.cells.specs.Cells.{Steady, apart, cell_bits}
 use Rattle.cells.specs.Mapping.{decided_bits, Moved}
 use Rattle.cells.specs.declared.cell.Cell.{Cell}
 use Rattle.streams.specs.declared.records.BadRecord.{BadRecord}
@@ -83,3 +87,12 @@ heard k n word reach decided record_bits read_bits point width count xs ys r sam
     let cells = cells_of point width count (word (message_of k (record_bits sent))) in
     let wrong : wrong_symbols decided n cells xs ≡ wrong_symbols decided n near ys = ap (λ a. differing (λ (x : ℕ). x) a (symbols_of decided n xs)) (sym alike) ∙ ap (differing (λ (x : ℕ). x) (symbols_of decided n near)) same in
     back sent cells (still cells) (rw wrong few) ∙ ap (λ e. Ok (record { stated = sent; mended = e })) wrong
+
+-- the word of the TIS has room on its cells
+pub tis_room : (c : TisConstellation) → 29 * 7 ≤ cell_bits (tis_order c) * tis_count c
+tis_room Qam4 = lit≤ tt
+tis_room Qam16 = lit≤ tt
+
+pub tis_more_room : (c : TisConstellation) → 29 * 7 ≤ cell_bits (tis_order c) * 102
+tis_more_room Qam4 = lit≤ tt
+tis_more_room Qam16 = lit≤ tt

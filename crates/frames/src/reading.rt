@@ -72,8 +72,7 @@ impl<
         ensures answer { TisAnswer (T.SendingCode.word self.now.tis) (T.MendingCode.reach self.now.tis) (B.Constellation.decided self.now.tis_points) constellation (picked TisKind received.entry.plan.now (cells_in received.entry.numbers.now)) result }
         ensures as_sent { HearsTis (T.SendingCode.word self.now.tis) (T.MendingCode.reach self.now.tis) (B.Constellation.point self.now.tis_points) (B.Constellation.decided self.now.tis_points) constellation (picked TisKind received.entry.plan.now (cells_in received.entry.numbers.now)) result }
     {
-        let mut cells = [Cell::ORIGIN; 102];
-        received.gather(CellKind::Tis, &mut cells[..constellation.cell_count()]);
+        let cells = received.tis_cells(constellation);
         read_tis(&self.tis, &self.tis_points, constellation, &cells)
     }
 

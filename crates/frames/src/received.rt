@@ -1,10 +1,14 @@
 // The cells of a received frame, by the plan.
-ghost use Rattle.std.specs.Prelude.{◌≡◌, ◌≢◌, ◌*◌, ◌<◌, ◌≤◌, length, take, MatchOption};
+ghost use Rattle.std.specs.Prelude.{◌≡◌, ◌≢◌, ◌-◌, ◌++◌, ◌*◌, ◌<◌, ◌≤◌, length, replicate, take, MatchOption};
 ghost use Rattle.frames.specs.Laying.{cell_at, cells_in, of_kind, picked};
+ghost use Rattle.cells.specs.Mapping.{origin};
 ghost use Rattle.lineup.specs.Layouts.{kind_count};
+ghost use Rattle.lineup.specs.declared.kind.CellKind.TheVariants.{Tis};
+ghost use Rattle.modes.specs.Modes.{tis_count};
 
 use cells::Cell;
 use lineup::kind::CellKind;
+use modes::TisConstellation;
 
 // What each cell carries, and two numbers for each.
 #[derive(Clone, Copy)]
@@ -56,5 +60,15 @@ impl<'a> ReceivedCells<'a> {
                 found += 1;
             }
         }
+    }
+
+    // The cells of the TIS, as many as its constellation takes; those behind them are (0, 0).
+    pub(crate) fn tis_cells(self, constellation: TisConstellation) -> [Cell; 102]
+        requires { tis_count constellation ≤ kind_count Tis self.plan.now }
+        ensures { result ≡ take (tis_count constellation) (picked Tis self.entry.plan.now (cells_in self.entry.numbers.now)) ++ replicate (102 - tis_count constellation) origin }
+    {
+        let mut cells = [Cell::ORIGIN; 102];
+        self.gather(CellKind::Tis, &mut cells[..constellation.cell_count()]);
+        cells
     }
 }
