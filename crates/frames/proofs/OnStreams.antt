@@ -10,7 +10,12 @@ use Rattle.bits.specs.Bits.{cut}
 use Rattle.modes.specs.Modes.{tis_count}
 use Rattle.modes.specs.declared.mode.TisConstellation.{TisConstellation}
 use Rattle.modes.specs.declared.mode.TisConstellation.TheVariants.{Qam4, Qam16}
-use Rattle.modem.specs.TisStream.{tis_order}
+use Rattle.lineup.specs.Stated.{coding_of, stated_tis}
+use Rattle.lineup.specs.declared.mode.Mode.{Mode}
+use Rattle.streams.specs.Records.{with_check}
+use Rattle.streams.specs.Tis.{tis_fields}
+use Rattle.modes.specs.declared.station.Tis.{Tis}
+use Rattle.modem.specs.TisStream.{tis_message, tis_order}
 use Rattle.cells.specs.Cells.{Steady, apart, cell_bits}
 use Rattle.cells.specs.Mapping.{decided_bits, Moved}
 use Rattle.cells.specs.declared.cell.Cell.{Cell}
@@ -96,3 +101,11 @@ tis_room Qam16 = lit≤ tt
 pub tis_more_room : (c : TisConstellation) → 29 * 7 ≤ cell_bits (tis_order c) * 102
 tis_more_room Qam4 = lit≤ tt
 tis_more_room Qam16 = lit≤ tt
+
+-- a TIS that states the mode's data coding has the message of the mode and its station
+fields_stated : (t : Tis) (m : Mode) → t.coding ≡ coding_of m → tis_fields t ≡ tis_fields (stated_tis m t.station)
+unfolding tis_fields
+fields_stated t m e = rw e refl
+
+pub message_stated : (t : Tis) (m : Mode) → t.coding ≡ coding_of m → tis_message t ≡ tis_message (stated_tis m t.station)
+message_stated t m e = ap (λ f. message_of 9 (with_check f)) (fields_stated t m e)
