@@ -1,7 +1,7 @@
 -- What is decided of a stream's first cells is what is decided of all. Assumes nothing.
 use Rattle.std.proofs.Common.{◌≡◌, ℕ, ◌*◌, ◌≤◌, Bool, List, [], ◌∷◌, ◌++◌, length, take, drop, Ok, Err, Result, refl, sym, ap, ◌∙◌, subst, mul-suc, mul-zero, length-append, ℤ, lit≤, arith}
 use Rattle.std.proofs.lemmas.Int.{ints}
-use Rattle.std.proofs.lemmas.List.{append-nil, length-take-le, take-append-drop}
+use Rattle.std.proofs.lemmas.List.{append-nil, take-append-le, length-take-le, take-append-drop}
 use Rattle.std.proofs.lemmas.Grind.{flat_map-append}
 use Rattle.std.proofs.Math.Seq.{take-append_seam}
 use Rattle.codes.specs.Mending.{Within}
@@ -16,6 +16,11 @@ use Rattle.streams.specs.Records.{with_check}
 use Rattle.streams.specs.Tis.{tis_fields}
 use Rattle.modes.specs.declared.station.Tis.{Tis}
 use Rattle.modem.specs.TisStream.{tis_message, tis_order}
+use Rattle.modes.specs.Modes.{data_number}
+use Rattle.modes.specs.declared.mode.DataConstellation.{DataConstellation}
+use Rattle.modes.specs.declared.mode.DataConstellation.TheVariants.{Qam4 as DataQam4, Qam16 as DataQam16, Qam64 as DataQam64}
+use Rattle.lineup.specs.LineUps.{data_words}
+use Rattle.frames.specs.Frames.{data_order}
 use Rattle.cells.specs.Cells.{Steady, apart, cell_bits}
 use Rattle.cells.specs.Mapping.{decided_bits, Moved}
 use Rattle.cells.specs.declared.cell.Cell.{Cell}
@@ -59,6 +64,15 @@ module _ (decided : Cell → List Bool) (width : ℕ) (sized : (x : Cell) → le
       let all = picked kind plan (cells_in numbers) in
       let long = length_picked kind plan (cells_in numbers) (length_cells (length plan) numbers size) in
       ap (symbols_of decided n) e ∙ symbols_front n count all ys room (omega arith)
+
+  -- as many bits as the first cells have
+  pub bits_front : (m count : ℕ) (xs : List Cell) → m ≤ width * count → count ≤ length xs → take m (decided_bits decided (take count xs)) ≡ take m (decided_bits decided xs)
+  bits_front m count xs room few =
+      let front = decided_bits decided (take count xs) in
+      let long : m ≤ length front = rw (length-decided (take count xs), length-take-le count xs few) room in
+      let all : decided_bits decided xs ≡ front ++ decided_bits decided (drop count xs) =
+      ap (decided_bits decided) (sym (take-append-drop count xs)) ∙ flat_map-append decided (take count xs) (drop count xs) in
+      sym (ap (take m) all ∙ take-append-le m front (decided_bits decided (drop count xs)) long)
 
 -- an answer is about the symbols that are decided
 pub answer_of : (k n : ℕ) (word : List ℕ → List ℕ) (reach : ℕ) (decided : Cell → List Bool) {R : Type 0} (record_bits : R → List Bool) (read_bits : List Bool → Result R BadRecord) (xs ys : List Cell) (r : Result (Reading R) StreamFault) →
@@ -109,3 +123,15 @@ fields_stated t m e = rw e refl
 
 pub message_stated : (t : Tis) (m : Mode) → t.coding ≡ coding_of m → tis_message t ≡ tis_message (stated_tis m t.station)
 message_stated t m e = ap (λ f. message_of 9 (with_check f)) (fields_stated t m e)
+
+-- each data word has two bits in a cell
+pub word_bits : (d : DataConstellation) → cell_bits (data_order d) ≡ 2 * data_words (data_number d)
+word_bits DataQam4 = refl
+word_bits DataQam16 = refl
+word_bits DataQam64 = refl
+
+-- so that the words fill half as many cells as one has bits
+pub words_fit : (d : DataConstellation) (n half : ℕ) → 2 * half ≡ n → data_words (data_number d) * n ≤ cell_bits (data_order d) * half
+words_fit DataQam4 n half e = omega arith
+words_fit DataQam16 n half e = omega arith
+words_fit DataQam64 n half e = omega arith

@@ -1,9 +1,10 @@
 // Reading a frame.
-ghost use Rattle.std.specs.Prelude.{◌≡◌, ◌*◌, ◌/◌, ◌≤◌, length};
-ghost use Rattle.lineup.specs.Layouts.{block_length_of, kind_count};
-ghost use Rattle.frames.specs.Frames.{sending};
+ghost use Rattle.std.specs.Prelude.{◌≡◌, ◌*◌, ◌≤◌, length, take};
+ghost use Rattle.lineup.specs.Layouts.{block_length_of, kind_count, words_of};
+ghost use Rattle.frames.specs.Frames.{data_order, sending};
+ghost use Rattle.cells.specs.Mapping.{decided_bits};
 ghost use Rattle.cells.specs.declared.cell.Order.TheVariants.{Four};
-ghost use Rattle.lineup.specs.declared.kind.CellKind.TheVariants.{Mis as MisKind, Tis as TisKind};
+ghost use Rattle.lineup.specs.declared.kind.CellKind.TheVariants.{Data as DataKind, Mis as MisKind, Tis as TisKind};
 ghost use Rattle.modes.specs.Modes.{tis_count};
 ghost use Rattle.modem.specs.MisStream.{MisAnswer};
 ghost use Rattle.modem.specs.TisStream.{TisAnswer};
@@ -114,6 +115,27 @@ impl<
         })
     }
 
+    // The bits of the data words.
+    fn hear_words<D: MendingCode<Symbol = bool>>(
+        &self,
+        layout: &Layout<'_, D>,
+        received: ReceivedCells<'_>,
+        words: &mut [bool],
+    )
+        requires plan { received.plan.now ≡ layout.now.plan.now }
+        requires room { length words.old ≡ words_of layout.now.mode * D.SendingCode.word_length layout.now.code.now }
+        ensures { words.new ≡ take (length words.old) (decided_bits (C.Constellation.decided self.now.data_points (data_order layout.now.mode.«data»)) (picked DataKind layout.now.plan.now (cells_in received.entry.numbers.now))) }
+    {
+        let mut store = [Cell::ORIGIN; MOST_DATA_CELLS];
+        let cells = &mut store[..layout.data_cells()];
+        received.gather(CellKind::Data, cells);
+        let modulation = Modulation {
+            points: &self.data_points,
+            order: order_of(layout.mode().data),
+        };
+        modulation.decide_bits(cells, words);
+    }
+
     // Mends the data words, and writes the block that they carry.
     fn read_block<D: MendingCode<Symbol = bool>>(
         &self,
@@ -127,16 +149,9 @@ impl<
         ensures as_sent { BlockAsSent (sending (M.SendingCode.word self.now.mis) (T.SendingCode.word self.now.tis) (D.SendingCode.word layout.now.code.now) (A.Constellation.point self.now.mis_points) (B.Constellation.point self.now.tis_points) (C.Constellation.point self.now.data_points) (D.SendingCode.message_length layout.now.code.now) (D.SendingCode.word_length layout.now.code.now)) (mending (M.MendingCode.reach self.now.mis) (T.MendingCode.reach self.now.tis) (D.MendingCode.reach layout.now.code.now) (A.Constellation.decided self.now.mis_points) (B.Constellation.decided self.now.tis_points) (C.Constellation.decided self.now.data_points)) layout.now.plan.now layout.now.mode (cells_in received.entry.numbers.now) block.new result }
     {
         let count = layout.words();
-        let mut store = [Cell::ORIGIN; MOST_DATA_CELLS];
-        let cells = &mut store[..layout.data_cells()];
-        received.gather(CellKind::Data, cells);
-        let modulation = Modulation {
-            points: &self.data_points,
-            order: order_of(layout.mode().data),
-        };
         let mut coded = [false; MOST_WORD_BITS];
         let words = &mut coded[..count * layout.code().word_length()];
-        modulation.decide_bits(cells, words);
+        self.hear_words(layout, received, words);
         let mut bits = [false; MOST_MESSAGE_BITS];
         let messages = &mut bits[..8 * block.len()];
         mend_words(layout.code(), count, words, messages).map_err(FrameFault::Data)?;

@@ -1,0 +1,38 @@
+use Rattle.std.proofs.Common.{◌≡◌, ◌*◌, ◌≤◌, ◌/◌, length, replicate, take, sym, ap, ◌∙◌, arith, length-take}
+use lib.ListN.{length-replicate}
+use Rattle.cells.specs.Cells.{cell_bits}
+use Rattle.cells.specs.Mapping.{decided_bits, origin}
+use Rattle.lineup.specs.declared.kind.CellKind.TheVariants.{Data as DataKind}
+use Rattle.frames.specs.Frames.{data_order}
+use Rattle.frames.specs.Laying.{cells_in, picked}
+use Rattle.frames.proofs.OnPlans.{length_cells, length_picked}
+use Rattle.frames.proofs.OnStreams.{bits_front, words_fit}
+use Rattle.frames.proofs.channel.Channel.hear_words.Goals as goal
+
+pub gather-requires : goal.gather-requires
+gather-requires g c =
+    let few = c.args.layout.now.roomy.«data» in
+    rw (length-take, length-replicate, c.requires.plan) (omega arith)
+
+pub decide_bits-requires : goal.decide_bits-requires
+decide_bits-requires g c =
+    let n = g.D.SendingCode.word_length c.args.layout.now.code.now in
+    let fit = words_fit c.args.layout.now.mode.«data» n (n / 2) c.args.layout.now.roomy.pairs in
+    let half : length c.gather.new.cells ≡ n / 2 = c.gather.auto.cells ∙ rw (length-take, length-replicate) (omega arith) in
+    rw (c.requires.room, c.order_of.ensures, c.mode.ensures, half) fit
+
+pub returns : goal.returns
+returns g c =
+    let n = g.D.SendingCode.word_length c.args.layout.now.code.now in
+    let mode = c.args.layout.now.mode in
+    let plan = c.args.layout.now.plan.now in
+    let numbers = c.args.received.numbers.now in
+    let points = c.args.self.now.data_points in
+    let fit = words_fit mode.«data» n (n / 2) c.args.layout.now.roomy.pairs in
+    let all = picked DataKind plan (cells_in numbers) in
+    let decided = g.C.Constellation.decided points (data_order mode.«data») in
+    let enough : n / 2 ≤ length all = omega (arith, c.args.layout.now.roomy.«data», length_picked DataKind plan (cells_in numbers) (length_cells (length plan) numbers (omega (arith, ap length c.requires.plan)))) in
+    let size : length (take c.data_cells.result (replicate 2560 origin)) ≡ n / 2 = rw (length-take, length-replicate) (omega arith) in
+    let cells : c.gather.new.cells ≡ take (n / 2) all = rw (size, c.requires.plan) at c.gather.ensures in
+    rw (c.order_of.ensures, c.mode.ensures, cells) at c.decide_bits.ensures.value
+    ∙ bits_front decided (cell_bits (data_order mode.«data»)) (g.met.C.Constellation.sized points (data_order mode.«data»)) (length c.args.words.now) (n / 2) all (rw c.requires.room fit) enough
