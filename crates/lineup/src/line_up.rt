@@ -5,6 +5,7 @@ ghost use Rattle.lineup.specs.LineUps.{Holds, Pass8};
 
 use crate::kind::CellKind;
 use crate::mode::Mode;
+use staircase::code::Staircase;
 use staircase::data_code::DataCode;
 
 // The mode of a frame, what each cell carries and the code of the data. It has no mode while it is empty.
@@ -18,3 +19,6 @@ pub struct LineUp<D: DataCode> {
     ghost passed: { Holds (held mode plan.items (D.DataCode.shape code) (D.DataCode.exponents code)) Pass8 },
     ghost room: { 3435 ≤ vec_capacity plan },
 }
+
+// The line-up whose data have the staircase code.
+pub type StaircaseLineUp = LineUp<Staircase>;
