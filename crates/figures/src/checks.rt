@@ -2,7 +2,7 @@
 // and a line-up of seven bytes with its clone.
 use bits::{crc8, crc16, spread};
 use lineup::asked::Asked;
-use lineup::line_up::LineUp;
+use lineup::line_up::StaircaseLineUp;
 use messages::Sender;
 use std::test::Fail;
 
@@ -38,7 +38,7 @@ fn a_clone_holds_the_same(rt: HostRuntime) -> Result<(), Fail> {
     let mut plan = [5; 345];
     plan[..14].fill(3);
     plan[14..65].fill(4);
-    let mut line_up = LineUp::new(rt.alloc())?;
+    let mut line_up = StaircaseLineUp::new(rt.alloc())?;
     let done = line_up.fill(Asked {
         occupancy: 0,
         tis: 1,

@@ -1,6 +1,6 @@
 // The largest line-ups that may be asked for, and those beside them that may not.
 use lineup::asked::Asked;
-use lineup::line_up::LineUp;
+use lineup::line_up::StaircaseLineUp;
 use std::test::Fail;
 
 // The mode; the bytes of the plan; lift, check rows and columns; how many exponents; and the answer.
@@ -31,7 +31,7 @@ fn beside_the_largest(rt: HostRuntime) -> Result<(), Fail> {
     bytes[..14].fill(3);
     bytes[14..65].fill(4);
     let numbers = [159; 289];
-    let mut line_up = LineUp::new(rt.alloc())?;
+    let mut line_up = StaircaseLineUp::new(rt.alloc())?;
     for ([occupancy, tis, data, rate], cells, [lift, rows, columns], count, answer) in CASES {
         let plan = bytes.get(..cells).ok_or("no such plan")?;
         let exponents = numbers.get(..count).ok_or("no such exponents")?;

@@ -2,6 +2,7 @@
 use crate::rows::{ROWS, Row};
 use codes::words::{BeyondReach, MendingCode, SendingCode};
 use staircase::code::Staircase;
+use staircase::data_code::DataCode;
 use staircase::exponents::Exponents;
 use staircase::shape::Shape;
 use std::alloc::{AllocError, Global};

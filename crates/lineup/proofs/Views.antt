@@ -1,7 +1,6 @@
 -- What a line-up holds, and what is known of it.
-use Rattle.std.proofs.Common.{◌≡◌, List, Some, None, vec_items, Option, unwrap_or, sym, ap, ◌∙◌, subst}
-use Rattle.modes.specs.Modes.{data_number, occupancy_number, rate_number, tis_number}
-use Rattle.staircase.specs.declared.code.Staircase.{Staircase}
+use Rattle.std.proofs.Common.{◌≡◌, List, ℤ, Some, Option, unwrap_or, sym, ap, ◌∙◌, subst}
+use Rattle.staircase.specs.declared.shape.Shape.{Shape}
 use Rattle.lineup.specs.declared.kind.CellKind.{CellKind}
 use Rattle.lineup.specs.declared.mode.Mode.{Mode}
 use Rattle.lineup.specs.Judging.{Forms, Names, held}
@@ -15,14 +14,12 @@ pub holds_same : (view other : Option Asked) (P : Asked → Type 0) → view ≡
 holds_same view other P e p a h = p a (sym e ∙ h)
 
 -- a line-up holds what its parts are
-pub held_is : (m : Mode) (plan : List CellKind) (code : Staircase) (a : Asked) → Names m a → Forms code.shape a → plan_bytes plan ≡ a.plan
-    → vec_items code.exponents ≡ a.exponents → held (Some m) plan code ≡ Some a
-held_is m plan code a n f e x =
+pub held_is : (m : Mode) (plan : List CellKind) (shape : Shape) (exponents : List ℤ) (a : Asked) → Names m a → Forms shape a → plan_bytes plan ≡ a.plan
+    → exponents ≡ a.exponents → held (Some m) plan shape exponents ≡ Some a
+held_is m plan shape exponents a n f e x =
     λ i. Some (asked (n.0 i) (n.1 i) (n.2 i) (n.3 i) (e i) (f.0 i) (f.1 i) (f.2 i) (x i))
 
 -- with equal parts it holds the same
-pub held_same : (mode : Option Mode) (plan p : List CellKind) (code d : Staircase) → plan ≡ p → code.shape ≡ d.shape
-    → vec_items code.exponents ≡ vec_items d.exponents → held mode plan code ≡ held mode p d
-held_same None plan p code d e s x = λ i. None
-held_same (Some m) plan p code d e s x =
-    λ i. Some (asked (occupancy_number m.occupancy) (tis_number m.tis) (data_number m.«data») (rate_number m.rate) (plan_bytes (e i)) (s i).lift (s i).rows (s i).columns (x i))
+pub held_same : (mode : Option Mode) {plan p : List CellKind} {shape s : Shape} {exponents e : List ℤ} → plan ≡ p → shape ≡ s → exponents ≡ e
+    → held mode plan shape exponents ≡ held mode p s e
+held_same mode plans shapes exponents = λ i. held mode (plans i) (shapes i) (exponents i)

@@ -1,8 +1,7 @@
 -- What is asked of a line-up, by the mode and the code that it names.
-use Rattle.std.specs.Prelude.{◌≡◌, List, Some, None, Ok, Err, vec_items, Option, Result}
+use Rattle.std.specs.Prelude.{◌≡◌, List, ℤ, Some, None, Ok, Err, Option, Result}
 use Rattle.refusals.specs.declared.Refusal.{Refusal}
 use Rattle.modes.specs.Modes.{data_number, occupancy_number, rate_number, tis_number}
-use Rattle.staircase.specs.declared.code.Staircase.{Staircase}
 use Rattle.staircase.specs.declared.exponents.Exponents.{Exponents}
 use Rattle.staircase.specs.declared.shape.Shape.{Shape}
 use Rattle.lineup.specs.declared.asked.Asked.{Asked as AskedParts}
@@ -30,9 +29,9 @@ abbrev pub Judged : Asked → Result (Mode × Exponents) Refusal → Type 0
 Judged a (Ok p) = Pass8 a × Names p.0 a × Forms p.1.shape a × (p.1.values.now ≡ a.exponents)
 Judged a (Err refusal) = Refuses a refusal
 
--- what a line-up holds, by its parts: nothing where it has no mode
-abbrev pub held : Option Mode → List CellKind → Staircase → Option Asked
-held None plan code = None
-held (Some m) plan code =
+-- what a line-up holds, by its mode, its plan and the numbers of its code: nothing where it has no mode
+abbrev pub held : Option Mode → List CellKind → Shape → List ℤ → Option Asked
+held None plan shape exponents = None
+held (Some m) plan shape exponents =
     Some (asked (occupancy_number m.occupancy) (tis_number m.tis) (data_number m.«data») (rate_number m.rate) (plan_bytes plan)
-    code.shape.lift code.shape.rows code.shape.columns (vec_items code.exponents))
+    shape.lift shape.rows shape.columns exponents)

@@ -1,5 +1,5 @@
 -- What the streams of a frame state of its mode.
-use Rattle.std.specs.Prelude.{◌≡◌, ℕ, ◌<◌, ◌≤◌}
+use Rattle.std.specs.Prelude.{ℕ, ◌<◌, ◌≤◌}
 use Rattle.std.proofs.Common.{lit≤, arith}
 use Rattle.modes.specs.Modes.{data_coding, data_number, occupancy_number, rate_number}
 use Rattle.modes.specs.declared.mode.Mis.{Mis}

@@ -5,8 +5,9 @@ ghost use Rattle.lineup.specs.Views.{block_length, view_of};
 use crate::line_up::LineUp;
 use crate::shape::data_words;
 use codes::words::SendingCode;
+use staircase::data_code::DataCode;
 
-impl LineUp {
+impl<D: DataCode> LineUp<D> {
     // The bytes of a frame's block; an empty line-up has none.
     pub fn block_length(&self) -> usize
         ensures { result ≡ block_length (view_of self.now) }

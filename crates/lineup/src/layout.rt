@@ -3,9 +3,11 @@ ghost use Rattle.std.specs.Prelude.{◌≡◌, ◌/◌, ◌≤◌};
 ghost use Rattle.lineup.specs.Layouts.{Roomy, block_length_of, words_of};
 
 use crate::kind::CellKind;
+use crate::line_up::LineUp;
 use crate::mode::Mode;
 use crate::shape::data_words;
 use codes::words::SendingCode;
+use staircase::data_code::DataCode;
 
 // The cells suffice for what the streams carry, and the data words carry whole bytes.
 #[derive(Drop)]
@@ -56,5 +58,22 @@ impl<'a, D: SendingCode<Symbol = bool>> Layout<'a, D> {
         ensures { result ≡ block_length_of self.now.mode (D.SendingCode.message_length self.now.code.now) }
     {
         self.words() * self.code.message_length() / 8
+    }
+}
+
+impl<D: DataCode> LineUp<D> {
+    ghost use Rattle.std.specs.Prelude.{IfSome, MatchOption, None, Some};
+    ghost use Rattle.lineup.specs.Views.{block_length, view_of};
+
+    // What the line-up is to a frame, unless it is empty.
+    pub fn layout(&self) -> Option<Layout<'_, D>>
+        ensures parts { MatchOption result (self.now.mode ≡ None) (λ l. (self.now.mode ≡ Some l.mode) × (l.plan.now ≡ self.now.plan.items) × (l.code.now ≡ self.now.code)) }
+        ensures block { IfSome result (λ l. block_length_of l.mode (D.SendingCode.message_length l.code.now) ≡ block_length (view_of self.now)) }
+    {
+        Some(Layout {
+            mode: self.mode?,
+            plan: self.plan.as_slice(),
+            code: &self.code,
+        })
     }
 }

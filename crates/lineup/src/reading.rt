@@ -4,9 +4,9 @@ ghost use Rattle.std.specs.Prelude.{◌≡◌};
 use crate::kind::CellKind;
 use crate::line_up::LineUp;
 use crate::mode::Mode;
-use staircase::code::Staircase;
+use staircase::data_code::DataCode;
 
-impl LineUp {
+impl<D: DataCode> LineUp<D> {
     // The mode, unless the line-up is empty.
     pub fn mode(&self) -> Option<Mode>
         ensures { result ≡ self.now.mode }
@@ -22,7 +22,7 @@ impl LineUp {
     }
 
     // The code of the data.
-    pub fn code(&self) -> &Staircase
+    pub fn code(&self) -> &D
         ensures { result.now ≡ self.now.code }
     {
         &self.code

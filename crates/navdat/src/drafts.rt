@@ -3,7 +3,7 @@ use desk::numbers::{natural, number};
 use desk::trouble::{Stop, Trouble};
 use desk::words::exactly;
 use lineup::asked::Asked;
-use lineup::line_up::LineUp;
+use lineup::line_up::StaircaseLineUp;
 use refusals::Refusal;
 use std::alloc::{AllocError, Global};
 use std::io;
@@ -15,7 +15,7 @@ const MOST_TIMES: u32 = 1_000_000;
 #[derive(Drop)]
 pub struct Desk {
     pub heap: Global,
-    line_up: LineUp,
+    line_up: StaircaseLineUp,
     plan: Vec<u8>,
     exponents: Vec<i16>,
 }
@@ -24,7 +24,7 @@ impl Desk {
     pub fn new(heap: Global) -> Result<Self, AllocError> {
         Ok(Desk {
             heap,
-            line_up: LineUp::new(heap)?,
+            line_up: StaircaseLineUp::new(heap)?,
             plan: Vec::new(heap),
             exponents: Vec::new(heap),
         })

@@ -2,6 +2,7 @@
 ghost use Rattle.std.specs.Prelude.{◌≡◌, ◌≤◌, [], ◌∷◌, negsuc, IfOk, vec_capacity};
 ghost use Rattle.staircase.specs.Staircase.{Filled};
 
+use crate::data_code::DataCode;
 use crate::exponents::Exponents;
 use crate::shape::{COLUMNS, ROWS, Shape};
 use std::alloc::{AllocError, Global};
@@ -19,9 +20,26 @@ pub struct Staircase {
 // the most exponents that a code has
 const ROOM: usize = ROWS * COLUMNS;
 
-impl Staircase {
+impl DataCode for Staircase {
+    ghost use Rattle.std.specs.Prelude.{refl};
+    ghost use Rattle.staircase.specs.Staircase.{word_of};
+
+    ghost shape = { λ c. c.shape };
+
+    ghost exponents = { λ c. c.exponents.items };
+
+    ghost message_sized = { λ c. refl };
+
+    ghost word_sized = { λ c. refl };
+
+    ghost same_shape = { λ c d same. same.0 };
+
+    ghost same_exponents = { λ c d same. same.1 };
+
+    ghost same_words = { λ c d same i. word_of (same.0 i).lift (same.0 i).rows (same.0 i).columns (same.1 i) };
+
     // The smallest code: one bit and its check, with no column in the row's sum.
-    pub fn new(heap: Global) -> Result<Self, AllocError>
+    fn new(heap: Global) -> Result<Self, AllocError>
         ensures { IfOk result (λ c. (c.shape.lift ≡ 1) × (c.shape.rows ≡ 1) × (c.shape.columns ≡ 1) × (c.exponents.items ≡ negsuc 0 ∷ [])) }
     {
         let mut exponents = Vec::with_capacity(heap, ROOM)?;
@@ -36,15 +54,11 @@ impl Staircase {
         })
     }
 
-    // Makes this the code with the exponents given.
-    pub fn fill(&mut self, exponents: Exponents<'_>)
-        ensures shape { self.new.shape ≡ exponents.entry.shape }
-        ensures exponents { self.new.exponents.items ≡ exponents.entry.values.now }
-    {
+    fn fill(&mut self, given: Exponents<'_>) {
         self.exponents.clear();
         // there is room, so this does not fail
-        let _ = self.exponents.extend_from_slice(exponents.values);
-        self.shape = exponents.shape;
+        let _ = self.exponents.extend_from_slice(given.values);
+        self.shape = given.shape;
     }
 }
 

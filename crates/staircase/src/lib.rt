@@ -4,6 +4,7 @@
 mod checks;
 pub mod code;
 pub mod coding;
+pub mod data_code;
 pub mod exponents;
 pub mod shape;
 mod sums;

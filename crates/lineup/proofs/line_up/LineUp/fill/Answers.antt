@@ -6,18 +6,20 @@ use Rattle.lineup.proofs.Views.{held_is, holds}
 use Rattle.lineup.proofs.line_up.LineUp.fill.Goals as goal
 
 pub write_plan-requires-clause-room : goal.write_plan-requires-clause-room
-write_plan-requires-clause-room c =
+write_plan-requires-clause-room g c =
     let judged = c.in_ok-mode.ensures in
     let few = whole_le c.args.asked.occupancy c.in_ok-mode.mode.occupancy c.args.asked.plan.now judged.1.0 judged.0.0.0.0.0.0.0.1 in
     omega arith
 
 pub invariant_of-self : goal.invariant_of-self
-invariant_of-self c =
+invariant_of-self g c =
     let a = asked_by c.args.asked in
     let judged = c.in_ok-mode.ensures in
     let mode = c.in_ok-mode.mode in
     let plan = vec_items c.write_plan.new.plan in
     let code = c.fill.new.self in
-    let forms : Forms code.shape a = search rules in
-    let same = held_is mode plan code a judged.1 forms c.write_plan.ensures.kinds (c.fill.ensures.exponents ∙ judged.3) in
-    record { passed = holds (held (Some mode) plan code) a Pass8 same judged.0; room = omega arith }
+    let shape = g.D.DataCode.shape code in
+    let exponents = g.D.DataCode.exponents code in
+    let forms : Forms shape a = search rules in
+    let same = held_is mode plan shape exponents a judged.1 forms c.write_plan.ensures.kinds (c.fill.ensures.exponents ∙ judged.3) in
+    record { passed = holds (held (Some mode) plan shape exponents) a Pass8 same judged.0; room = omega arith }
