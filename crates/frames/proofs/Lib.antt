@@ -1,2 +1,3 @@
 pub mod DataWords
 pub mod OnPlans
+pub mod Sent
