@@ -1,9 +1,14 @@
 -- Data words, one more at the front. Assumes nothing.
-use Rattle.std.proofs.Common.{◌≡◌, ℕ, zero, suc, ◌+◌, ◌-◌, ◌*◌, ◌<◌, ◌≤◌, Bool, List, [], ◌∷◌, ◌++◌, length, take, drop, refl, sym, ap, ◌∙◌, subst, mul-suc, mul-zero, zero-mul, arith}
-use Rattle.std.proofs.lemmas.List.{drop-drop, drop_at, take_at}
+use Rattle.std.proofs.Common.{◌≡◌, ℕ, zero, suc, ◌+◌, ◌-◌, ◌*◌, ◌<◌, ◌≤◌, Bool, List, [], ◌∷◌, ◌++◌, length, take, drop, Ok, Err, Result, refl, sym, ap, ◌∙◌, subst, mul-suc, suc-mul, mul-zero, zero-mul, arith}
+use Rattle.std.proofs.lemmas.List.{drop-drop, drop-take, drop_at, take_all, take_at, take-take}
+use Rattle.bits.specs.Bits.{cut, spread}
+use Rattle.bits.specs.Scrambling.{scrambled}
+use Rattle.bits.proofs.Bits.{spread_cut}
+use Rattle.bits.proofs.Sequences.{length-scrambled, scrambled-scrambled}
+use Rattle.frames.proofs.Sent.{part_front}
 use Rattle.codes.specs.Symbols.{bit_number}
 use Rattle.codes.specs.Mending.{Within}
-use Rattle.frames.specs.Words.{coded, WordLost, WordWithin, WordsWithin, part}
+use Rattle.frames.specs.Words.{coded, DataMended, WordLost, WordWithin, WordsWithin, part}
 
 pub coded_none : (word : List Bool → List Bool) (k n count : ℕ) (messages words : List Bool) → count ≡ 0 → length words ≡ count * n → words ≡ coded word k count messages
 unfolding coded
@@ -44,3 +49,29 @@ module _ (word : List Bool → List Bool) (reach k n : ℕ) where
 
   pub lost_first : (bits : List Bool) → ((message : List Bool) (e : ℕ) → Within bit_number k word reach (take n bits) message e → ⊥) → WordLost word reach k n 0 bits
   lost_first bits lost message e w = lost message e (subst (λ (m : ℕ). Within bit_number k word reach (take n (drop m bits)) message e) (mul-zero n) w)
+
+  -- what stands behind the words does not count
+  pub within_taken : (count m : ℕ) (bits messages : List Bool) → count * n ≤ m → WordsWithin word reach k n count (take m bits) messages → WordsWithin word reach k n count bits messages
+  unfolding WordsWithin
+  within_taken zero m bits messages h w = tt
+  within_taken (suc count) m bits messages h w =
+      let more : suc count * n ≡ count * n + n = suc-mul count n in
+      let le : n ≤ m = omega arith in
+      let e : m ≡ n + (m - n) = omega arith in
+      let front : take n (take m bits) ≡ take n bits = take-take n m bits le in
+      let back : drop n (take m bits) ≡ take (m - n) (drop n bits) = ap (λ (j : ℕ). drop n (take j bits)) e ∙ drop-take n (m - n) bits in
+      (rw front at w.0, within_taken count (m - n) (drop n bits) (drop k messages) (omega arith) (rw back at w.1))
+
+  pub lost_taken : (count i : ℕ) (bits : List Bool) → i < count → WordLost word reach k n i (take (count * n) bits) → WordLost word reach k n i bits
+  lost_taken count i bits h lost message e w =
+      lost message e (subst (λ (b : List Bool). Within bit_number k word reach b message e) (sym (part_front n count i bits h)) w)
+
+  pub mended_taken : (count : ℕ) (bits messages : List Bool) (r : Result (Unit {0}) ℕ) → DataMended word reach k n count (take (count * n) bits) messages r → DataMended word reach k n count bits messages r
+  mended_taken count bits messages (Ok done) w = within_taken count (count * n) bits messages (omega arith) w
+  mended_taken count bits messages (Err i) w = (w.0, lost_taken count i bits w.0 w.1)
+
+-- the bits of a block that is cut from mended messages are these messages
+pub block_back : (size : ℕ) (messages : List Bool) → length messages ≡ size * 8 → scrambled 0 (spread 8 (cut 8 size (scrambled 0 messages))) ≡ messages
+block_back size messages h =
+    let long = length-scrambled 0 messages in
+    ap (scrambled 0) (spread_cut 8 size (scrambled 0 messages) (omega arith) ∙ take_all (size * 8) (scrambled 0 messages) (omega arith)) ∙ scrambled-scrambled 0 messages

@@ -30,3 +30,8 @@ module _ (word : List Bool → List Bool) (reach k n : ℕ) where
   -- no message is within reach of the word number i
   abbrev pub WordLost : ℕ → List Bool → Type 0
   WordLost i bits = (message : List Bool) (e : ℕ) → Within bit_number k word reach (part n i bits) message e → ⊥
+
+  -- the messages within reach of so many words, or a word that has none
+  abbrev pub DataMended : ℕ → (bits messages : List Bool) → Result (Unit {0}) ℕ → Type 0
+  DataMended count bits messages (Ok done) = WordsWithin count bits messages
+  DataMended count bits messages (Err i) = (i < count) × WordLost i bits

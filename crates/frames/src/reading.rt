@@ -11,6 +11,7 @@ ghost use Rattle.modem.specs.TisStream.{TisAnswer};
 ghost use Rattle.frames.specs.Laying.{cells_in, picked};
 ghost use Rattle.frames.specs.Hearing.{HearsMis, HearsTis};
 ghost use Rattle.frames.specs.Reading.{BlockAsSent, BlockTold, FrameAnswer, HasFrame, mending, ModeAsSent, ModeTold, ReadsSent, StationAsSent, StationTold};
+ghost use Rattle.frames.specs.Words.{DataMended};
 ghost use Rattle.frames.specs.Tellings.{told};
 
 use crate::channel::Channel;
@@ -124,7 +125,7 @@ impl<
     )
         requires plan { received.plan.now ≡ layout.now.plan.now }
         requires room { length words.old ≡ words_of layout.now.mode * D.SendingCode.word_length layout.now.code.now }
-        ensures { words.new ≡ take (length words.old) (decided_bits (C.Constellation.decided self.now.data_points (data_order layout.now.mode.«data»)) (picked DataKind layout.now.plan.now (cells_in received.entry.numbers.now))) }
+        ensures { words.new ≡ take (words_of layout.now.mode * D.SendingCode.word_length layout.now.code.now) (decided_bits (C.Constellation.decided self.now.data_points (data_order layout.now.mode.«data»)) (picked DataKind layout.now.plan.now (cells_in received.entry.numbers.now))) }
     {
         let mut store = [Cell::ORIGIN; MOST_DATA_CELLS];
         let cells = &mut store[..layout.data_cells()];
@@ -134,6 +135,25 @@ impl<
             order: order_of(layout.mode().data),
         };
         modulation.decide_bits(cells, words);
+    }
+
+    // Mends the messages of the data words, or answers the number of the first word that is beyond reach.
+    fn mend_data<D: MendingCode<Symbol = bool>>(
+        &self,
+        layout: &Layout<'_, D>,
+        received: ReceivedCells<'_>,
+        messages: &mut [bool],
+    ) -> Result<(), usize>
+        requires plan { received.plan.now ≡ layout.now.plan.now }
+        requires room { length messages.old ≡ words_of layout.now.mode * D.SendingCode.message_length layout.now.code.now }
+        ensures size { length messages.new ≡ length messages.old }
+        ensures answer { DataMended (D.SendingCode.word layout.now.code.now) (D.MendingCode.reach layout.now.code.now) (D.SendingCode.message_length layout.now.code.now) (D.SendingCode.word_length layout.now.code.now) (words_of layout.now.mode) (decided_bits (C.Constellation.decided self.now.data_points (data_order layout.now.mode.«data»)) (picked DataKind layout.now.plan.now (cells_in received.entry.numbers.now))) messages.new result }
+    {
+        let count = layout.words();
+        let mut store = [false; MOST_WORD_BITS];
+        let words = &mut store[..count * layout.code().word_length()];
+        self.hear_words(layout, received, words);
+        mend_words(layout.code(), count, words, messages)
     }
 
     // Mends the data words, and writes the block that they carry.
@@ -148,13 +168,10 @@ impl<
         ensures told { BlockTold (sending (M.SendingCode.word self.now.mis) (T.SendingCode.word self.now.tis) (D.SendingCode.word layout.now.code.now) (A.Constellation.point self.now.mis_points) (B.Constellation.point self.now.tis_points) (C.Constellation.point self.now.data_points) (D.SendingCode.message_length layout.now.code.now) (D.SendingCode.word_length layout.now.code.now)) (mending (M.MendingCode.reach self.now.mis) (T.MendingCode.reach self.now.tis) (D.MendingCode.reach layout.now.code.now) (A.Constellation.decided self.now.mis_points) (B.Constellation.decided self.now.tis_points) (C.Constellation.decided self.now.data_points)) layout.now.plan.now layout.now.mode (cells_in received.entry.numbers.now) block.new result }
         ensures as_sent { BlockAsSent (sending (M.SendingCode.word self.now.mis) (T.SendingCode.word self.now.tis) (D.SendingCode.word layout.now.code.now) (A.Constellation.point self.now.mis_points) (B.Constellation.point self.now.tis_points) (C.Constellation.point self.now.data_points) (D.SendingCode.message_length layout.now.code.now) (D.SendingCode.word_length layout.now.code.now)) (mending (M.MendingCode.reach self.now.mis) (T.MendingCode.reach self.now.tis) (D.MendingCode.reach layout.now.code.now) (A.Constellation.decided self.now.mis_points) (B.Constellation.decided self.now.tis_points) (C.Constellation.decided self.now.data_points)) layout.now.plan.now layout.now.mode (cells_in received.entry.numbers.now) block.new result }
     {
-        let count = layout.words();
-        let mut coded = [false; MOST_WORD_BITS];
-        let words = &mut coded[..count * layout.code().word_length()];
-        self.hear_words(layout, received, words);
         let mut bits = [false; MOST_MESSAGE_BITS];
         let messages = &mut bits[..8 * block.len()];
-        mend_words(layout.code(), count, words, messages).map_err(FrameFault::Data)?;
+        self.mend_data(layout, received, messages)
+            .map_err(FrameFault::Data)?;
         scramble(messages);
         cut::<8>(messages, block);
         Ok(())

@@ -1,6 +1,6 @@
 // Data words that follow one another.
-ghost use Rattle.std.specs.Prelude.{◌≡◌, ◌+◌, ◌-◌, ◌*◌, ◌<◌, ◌≤◌, length, MatchResult};
-ghost use Rattle.frames.specs.Words.{coded, WordLost, WordsWithin};
+ghost use Rattle.std.specs.Prelude.{◌≡◌, ◌+◌, ◌-◌, ◌*◌, ◌<◌, ◌≤◌, length};
+ghost use Rattle.frames.specs.Words.{coded, DataMended};
 
 use codes::words::{MendingCode, SendingCode};
 
@@ -34,7 +34,7 @@ pub(crate) fn mend_words<D: MendingCode<Symbol = bool>>(
     requires words { length words.now ≡ count * D.SendingCode.word_length code.now }
     requires messages { length messages.old ≡ count * D.SendingCode.message_length code.now }
     ensures size { length messages.new ≡ length messages.old }
-    ensures answer { MatchResult result (λ _. WordsWithin (D.SendingCode.word code.now) (D.MendingCode.reach code.now) (D.SendingCode.message_length code.now) (D.SendingCode.word_length code.now) count words.now messages.new) (λ i. (i < count) × WordLost (D.SendingCode.word code.now) (D.MendingCode.reach code.now) (D.SendingCode.message_length code.now) (D.SendingCode.word_length code.now) i words.now) }
+    ensures answer { DataMended (D.SendingCode.word code.now) (D.MendingCode.reach code.now) (D.SendingCode.message_length code.now) (D.SendingCode.word_length code.now) count words.now messages.new result }
 {
     if count == 0 {
         return Ok(());

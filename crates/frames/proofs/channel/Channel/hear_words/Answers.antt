@@ -3,6 +3,7 @@ use lib.ListN.{length-replicate}
 use Rattle.cells.specs.Cells.{cell_bits}
 use Rattle.cells.specs.Mapping.{decided_bits, origin}
 use Rattle.lineup.specs.declared.kind.CellKind.TheVariants.{Data as DataKind}
+use Rattle.lineup.specs.Layouts.{words_of}
 use Rattle.frames.specs.Frames.{data_order}
 use Rattle.frames.specs.Laying.{cells_in, picked}
 use Rattle.frames.proofs.OnPlans.{length_cells, length_picked}
@@ -34,5 +35,5 @@ returns g c =
     let enough : n / 2 ≤ length all = omega (arith, c.args.layout.now.roomy.«data», length_picked DataKind plan (cells_in numbers) (length_cells (length plan) numbers (omega (arith, ap length c.requires.plan)))) in
     let size : length (take c.data_cells.result (replicate 2560 origin)) ≡ n / 2 = rw (length-take, length-replicate) (omega arith) in
     let cells : c.gather.new.cells ≡ take (n / 2) all = rw (size, c.requires.plan) at c.gather.ensures in
-    rw (c.order_of.ensures, c.mode.ensures, cells) at c.decide_bits.ensures.value
-    ∙ bits_front decided (cell_bits (data_order mode.«data»)) (g.met.C.Constellation.sized points (data_order mode.«data»)) (length c.args.words.now) (n / 2) all (rw c.requires.room fit) enough
+    rw (c.order_of.ensures, c.mode.ensures, cells, c.requires.room) at c.decide_bits.ensures.value
+    ∙ bits_front decided (cell_bits (data_order mode.«data»)) (g.met.C.Constellation.sized points (data_order mode.«data»)) (words_of mode * n) (n / 2) all fit enough
