@@ -1,3 +1,4 @@
 pub mod DataWords
 pub mod OnPlans
 pub mod Sent
+pub mod Within
