@@ -2,3 +2,4 @@ pub mod DataWords
 pub mod OnPlans
 pub mod OnStreams
 pub mod Sent
+pub mod Within

@@ -131,7 +131,7 @@ cells_mapped point width zero bits = refl
 cells_mapped point width (suc count) bits = ap suc (cells_mapped point width count (drop width bits))
 
 -- the first part of bits, and a later one
-part_first : (w : ℕ) (bits : List Bool) → part w 0 bits ≡ take w bits
+pub part_first : (w : ℕ) (bits : List Bool) → part w 0 bits ≡ take w bits
 part_first w bits = rw (mul-zero w) refl
 
 pub part_next : (w i : ℕ) (bits : List Bool) → part w (suc i) bits ≡ part w i (drop w bits)
