@@ -3,3 +3,4 @@ pub mod OnPlans
 pub mod OnStreams
 pub mod Sent
 pub mod Within
+pub mod BlockSent

@@ -1,5 +1,5 @@
 -- What is decided of a stream's first cells is what is decided of all. Assumes nothing.
-use Rattle.std.proofs.Common.{◌≡◌, ℕ, ◌*◌, ◌≤◌, Bool, List, [], ◌∷◌, ◌++◌, length, take, drop, Ok, Err, Result, refl, sym, ap, ◌∙◌, subst, mul-suc, mul-zero, length-append, ℤ, lit≤, arith}
+use Rattle.std.proofs.Common.{◌≡◌, ℕ, ◌*◌, ◌/◌, ◌≤◌, Bool, List, [], ◌∷◌, ◌++◌, length, take, drop, Ok, Err, Result, refl, sym, ap, ◌∙◌, subst, mul-suc, mul-zero, length-append, ℤ, lit≤, arith}
 use Rattle.std.proofs.lemmas.Int.{ints}
 use Rattle.std.proofs.lemmas.List.{append-nil, take-append-le, length-take-le, take-append-drop}
 use Rattle.std.proofs.lemmas.Grind.{flat_map-append}
@@ -135,3 +135,8 @@ pub words_fit : (d : DataConstellation) (n half : ℕ) → 2 * half ≡ n → da
 words_fit DataQam4 n half e = omega arith
 words_fit DataQam16 n half e = omega arith
 words_fit DataQam64 n half e = omega arith
+
+pub words_enough : (d : DataConstellation) (n cells : ℕ) → 2 * (n / 2) ≡ n → n / 2 ≤ cells → data_words (data_number d) * n ≤ cell_bits (data_order d) * cells
+words_enough DataQam4 n cells e h = omega arith
+words_enough DataQam16 n cells e h = omega arith
+words_enough DataQam64 n cells e h = omega arith

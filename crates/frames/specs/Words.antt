@@ -1,5 +1,5 @@
 -- Data words that follow one another: their messages have k bits each, and they n.
-use Rattle.std.specs.Prelude.{◌≡◌, ℕ, zero, suc, ◌*◌, ◌<◌, ◌≤◌, Bool, List, [], ◌++◌, take, drop, Ok, Err, Result}
+use Rattle.std.specs.Prelude.{◌≡◌, ℕ, zero, suc, ◌*◌, ◌<◌, ◌≤◌, Bool, List, [], ◌++◌, length, take, drop, Ok, Err, Result}
 use Rattle.codes.specs.Symbols.{bit_number, differing}
 use Rattle.codes.specs.Mending.{Within}
 
@@ -35,3 +35,9 @@ module _ (word : List Bool → List Bool) (reach k n : ℕ) where
   abbrev pub DataMended : ℕ → (bits messages : List Bool) → Result (Unit {0}) ℕ → Type 0
   DataMended count bits messages (Ok done) = WordsWithin count bits messages
   DataMended count bits messages (Err i) = (i < count) × WordLost i bits
+
+  -- messages whose words differ in no more places than the reach are mended as sent
+  abbrev pub DataAsSent : ℕ → (bits messages : List Bool) → Result (Unit {0}) ℕ → Type 0
+  DataAsSent count bits messages answer =
+      (sent : List Bool) → length sent ≡ count * k → ((i : ℕ) → i < count → wrong_bits n i (coded word k count sent) bits ≤ reach)
+      → (answer ≡ Ok tt) × (messages ≡ sent)

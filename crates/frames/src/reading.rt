@@ -11,7 +11,7 @@ ghost use Rattle.modem.specs.TisStream.{TisAnswer};
 ghost use Rattle.frames.specs.Laying.{cells_in, picked};
 ghost use Rattle.frames.specs.Hearing.{HearsMis, HearsTis};
 ghost use Rattle.frames.specs.Reading.{BlockAsSent, BlockTold, FrameAnswer, HasFrame, mending, ModeAsSent, ModeTold, ReadsSent, StationAsSent, StationTold};
-ghost use Rattle.frames.specs.Words.{DataMended};
+ghost use Rattle.frames.specs.Words.{DataAsSent, DataMended};
 ghost use Rattle.frames.specs.Tellings.{told};
 
 use crate::channel::Channel;
@@ -147,6 +147,7 @@ impl<
         requires plan { received.plan.now ≡ layout.now.plan.now }
         requires room { length messages.old ≡ words_of layout.now.mode * D.SendingCode.message_length layout.now.code.now }
         ensures size { length messages.new ≡ length messages.old }
+        ensures as_sent { DataAsSent (D.SendingCode.word layout.now.code.now) (D.MendingCode.reach layout.now.code.now) (D.SendingCode.message_length layout.now.code.now) (D.SendingCode.word_length layout.now.code.now) (words_of layout.now.mode) (decided_bits (C.Constellation.decided self.now.data_points (data_order layout.now.mode.«data»)) (picked DataKind layout.now.plan.now (cells_in received.entry.numbers.now))) messages.new result }
         ensures answer { DataMended (D.SendingCode.word layout.now.code.now) (D.MendingCode.reach layout.now.code.now) (D.SendingCode.message_length layout.now.code.now) (D.SendingCode.word_length layout.now.code.now) (words_of layout.now.mode) (decided_bits (C.Constellation.decided self.now.data_points (data_order layout.now.mode.«data»)) (picked DataKind layout.now.plan.now (cells_in received.entry.numbers.now))) messages.new result }
     {
         let count = layout.words();
