@@ -171,8 +171,9 @@ impl<
     {
         let mut bits = [false; MOST_MESSAGE_BITS];
         let messages = &mut bits[..8 * block.len()];
-        self.mend_data(layout, received, messages)
-            .map_err(FrameFault::Data)?;
+        if let Err(word) = self.mend_data(layout, received, messages) {
+            return Err(FrameFault::Data(word));
+        }
         scramble(messages);
         cut::<8>(messages, block);
         Ok(())
