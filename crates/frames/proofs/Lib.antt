@@ -1,4 +1,5 @@
 pub mod DataWords
+pub mod FrameAnswers
 pub mod OnPlans
 pub mod OnStreams
 pub mod Sent

@@ -1,5 +1,5 @@
 -- What is read of a frame that was sent: its streams' cells, symbols and bits. Assumes nothing.
-use Rattle.std.proofs.Common.{◌≡◌, ℕ, zero, suc, ◌+◌, ◌*◌, ◌/◌, ◌<◌, ◌≤◌, Bool, true, false, cond, List, [], ◌∷◌, ◌++◌, length, take, drop, refl, sym, ap, ◌∙◌, mul_assoc, mul_comm, mul-zero, mul-suc, suc-mul, zero-mul, take-add, arith}
+use Rattle.std.proofs.Common.{◌≡◌, ℕ, zero, suc, ◌+◌, ◌*◌, ◌/◌, ◌<◌, ◌≤◌, Bool, true, false, cond, List, [], ◌∷◌, ◌++◌, length, take, drop, refl, sym, ap, ◌∙◌, mul_assoc, mul-zero, mul-suc, suc-mul, zero-mul, take-add, arith}
 use Rattle.std.proofs.lemmas.Int.{ints}
 use Rattle.std.proofs.lemmas.List.{drop_at, drop-drop, drop-take, length-append, length-drop, length-take-le, take_all, take_at, take-take}
 use Rattle.codes.specs.Symbols.{Below128}
@@ -14,7 +14,7 @@ use Rattle.cells.specs.declared.cell.Order.{Order}
 use Rattle.cells.specs.declared.cell.Order.TheVariants.{Four}
 use Rattle.cells.proofs.Streams.{steady_stream}
 use Rattle.lineup.specs.declared.kind.CellKind.{CellKind}
-use Rattle.lineup.specs.declared.kind.CellKind.TheVariants.{Empty, Plus, Minus, Mis, Tis, Data}
+use Rattle.lineup.specs.declared.kind.CellKind.TheVariants.{Mis, Tis, Data}
 use Rattle.lineup.specs.declared.mode.Mode.{Mode}
 use Rattle.lineup.specs.Layouts.{Roomy, block_length_of, kind_count, words_of}
 use Rattle.lineup.specs.Kinds.{kind_number, plan_bytes}

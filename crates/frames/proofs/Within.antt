@@ -1,8 +1,7 @@
 -- What is read of cells: words within reach by their numbers, and that a frame within reach is the frame that is read. Assumes nothing.
-use Rattle.std.proofs.Common.{◌≡◌, ℕ, zero, suc, ◌+◌, ◌-◌, ◌*◌, ◌<◌, ◌≤◌, Bool, List, [], ◌∷◌, ◌++◌, length, take, drop, replicate, Some, None, Ok, Err, Option, Result, refl, sym, ap, ◌∙◌, suc-mul, zero-mul, arith, lit<}
-use Rattle.std.proofs.lemmas.List.{length-append, length-drop, length-replicate, length-take-le, nil_from_length, take-append-drop}
+use Rattle.std.proofs.Common.{◌≡◌, ℕ, zero, suc, ◌+◌, ◌*◌, ◌<◌, ◌≤◌, Bool, List, ◌++◌, length, take, drop, Ok, Err, Result, sym, ap, ◌∙◌, suc-mul, zero-mul, arith}
+use Rattle.std.proofs.lemmas.List.{length-drop, length-take-le, nil_from_length, take-append-drop}
 use Rattle.codes.specs.Symbols.{Below128, bit_number, differing}
-use Rattle.codes.specs.Mending.{Within}
 use Rattle.codes.proofs.Mends.{one_within}
 use Rattle.staircase.specs.Near.{below-bits}
 use Rattle.cells.specs.declared.cell.Cell.{Cell}

@@ -1,0 +1,112 @@
+use Rattle.std.proofs.Common.{sym, ◌∙◌, rules}
+use Rattle.std.proofs.lemmas.Result.{err_from_is_err_and}
+use Rattle.bits.proofs.ByteLaws.{below_from}
+use Rattle.packets.specs.Packets.{carried}
+use Rattle.frames.specs.Frames.{Sending, sending}
+use Rattle.frames.specs.Laying.{cells_in}
+use Rattle.frames.specs.Reading.{Mending, mending}
+use Rattle.frames.proofs.Sent.{Known}
+use Rattle.frames.proofs.FrameAnswers.{data_refused, has_frame, mis_refused, packet_refused, packet_told, reads_sent, tis_refused}
+use Rattle.frames.proofs.channel.Channel.read_frame.Given as given
+use Rattle.frames.proofs.channel.Channel.read_frame.Goals as goal
+
+-- what the bounds say of the codes and the constellations
+module _ (g : given.Over) (mis : g.row.M.Denot) (tis : g.row.T.Denot) (code : g.row.D.Denot) (a : g.row.A.Denot) (b : g.row.B.Denot) (d : g.row.C.Denot) where
+  abbrev sends : Sending
+  sends =
+      sending (g.M.SendingCode.word mis) (g.T.SendingCode.word tis) (g.D.SendingCode.word code) (g.A.Constellation.point a) (g.B.Constellation.point b) (g.C.Constellation.point d)
+      (g.D.SendingCode.message_length code) (g.D.SendingCode.word_length code)
+
+  abbrev mends : Mending
+  mends =
+      mending (g.M.MendingCode.reach mis) (g.T.MendingCode.reach tis) (g.D.MendingCode.reach code) (g.A.Constellation.decided a) (g.B.Constellation.decided b) (g.C.Constellation.decided d)
+
+  known : Known sends mends
+  known =
+      record {
+        mis_sized = λ x h. g.met.M.SendingCode.sized mis x (h ∙ sym (g.met.M.FixedCode.message mis)) ∙ g.met.M.FixedCode.word mis;
+        mis_below = λ x h l. g.met.M.SendingCode.below mis x (h ∙ sym (g.met.M.FixedCode.message mis)) l;
+        tis_sized = λ x h. g.met.T.SendingCode.sized tis x (h ∙ sym (g.met.T.FixedCode.message tis)) ∙ g.met.T.FixedCode.word tis;
+        tis_below = λ x h l. g.met.T.SendingCode.below tis x (h ∙ sym (g.met.T.FixedCode.message tis)) l;
+        data_sized = λ x h. g.met.D.SendingCode.sized code x h;
+        mis_bits = λ o x. g.met.A.Constellation.sized a o x;
+        mis_steady = λ o. g.met.A.Constellation.steady a o;
+        tis_bits = λ o x. g.met.B.Constellation.sized b o x;
+        tis_steady = λ o. g.met.B.Constellation.steady b o;
+        data_bits = λ o x. g.met.C.Constellation.sized d o x;
+        data_steady = λ o. g.met.C.Constellation.steady d o;
+      }
+
+pub returns-in_err-mis-clause-reads_sent : goal.returns-in_err-mis-clause-reads_sent
+returns-in_err-mis-clause-reads_sent g c =
+    let s = c.args.self.now in
+    let l = c.args.layout.now in
+    mis_refused _ _ (known g s.mis s.tis l.code.now s.mis_points s.tis_points s.data_points) l.plan.now l.mode l.roomy (cells_in c.args.received.numbers.now)
+    c.in_err-mis.field-0.0 _ c.in_err-mis.ensures.as_sent
+
+pub returns-in_err-tis-clause-answer : goal.returns-in_err-tis-clause-answer
+returns-in_err-tis-clause-answer g c =
+    let p = err_from_is_err_and c.from_residual-in_err-tis.result c.from_residual-in_err-tis.ensures.1 in
+    rw (p.1, p.2) (c.in_err-tis.ensures.told c.in_ok-mis.mis c.in_ok-mis.ensures.told)
+
+pub returns-in_err-tis-clause-reads_sent : goal.returns-in_err-tis-clause-reads_sent
+returns-in_err-tis-clause-reads_sent g c =
+    let s = c.args.self.now in
+    let l = c.args.layout.now in
+    tis_refused _ _ (known g s.mis s.tis l.code.now s.mis_points s.tis_points s.data_points) l.plan.now l.mode l.roomy (cells_in c.args.received.numbers.now)
+    c.in_err-tis.field-0.0 _ c.in_err-tis.ensures.as_sent
+
+pub returns-in_err-read_block-clause-answer : goal.returns-in_err-read_block-clause-answer
+returns-in_err-read_block-clause-answer g c =
+    let p = err_from_is_err_and c.from_residual-in_err-read_block.result c.from_residual-in_err-read_block.ensures.1 in
+    rw (p.1, p.2) (c.in_err-read_block.ensures.told (c.in_ok-mis.mis, c.in_ok-tis.tis.stated, c.in_ok-tis.tis.mended, c.in_ok-mis.ensures.told, c.in_ok-tis.ensures.told))
+
+pub returns-in_err-read_block-clause-reads_sent : goal.returns-in_err-read_block-clause-reads_sent
+returns-in_err-read_block-clause-reads_sent g c =
+    let s = c.args.self.now in
+    let l = c.args.layout.now in
+    data_refused _ _ (known g s.mis s.tis l.code.now s.mis_points s.tis_points s.data_points) l.plan.now l.mode l.roomy (cells_in c.args.received.numbers.now)
+    c.in_err-read_block.field-0.0 c.read_block.new.block _ c.in_err-read_block.ensures.as_sent
+
+pub returns-in_err-packet-clause-answer : goal.returns-in_err-packet-clause-answer
+returns-in_err-packet-clause-answer g c =
+    let p = err_from_is_err_and c.from_residual-in_err-packet.result c.from_residual-in_err-packet.ensures.1 in
+    let octets = below_from 256 c.read_block.new.block (λ i h. search rules) in
+    rw (p.1, p.2) (
+      (c.in_ok-mis.mis, c.in_ok-tis.tis.stated, c.in_ok-tis.tis.mended, c.in_ok-mis.ensures.told, c.in_ok-tis.ensures.told),
+      c.read_block.new.block,
+      c.read_block.auto.block ∙ c.requires.block,
+      octets,
+      c.in_ok-read_block.ensures.told,
+      sym c.in_err-packet.ensures.value,
+    )
+
+pub returns-in_err-packet-clause-reads_sent : goal.returns-in_err-packet-clause-reads_sent
+returns-in_err-packet-clause-reads_sent g c =
+    let s = c.args.self.now in
+    let l = c.args.layout.now in
+    packet_refused _ _ (known g s.mis s.tis l.code.now s.mis_points s.tis_points s.data_points) l.plan.now l.mode l.roomy (cells_in c.args.received.numbers.now)
+    c.read_block.new.block _ c.in_ok-read_block.ensures.as_sent c.in_err-packet.ensures.exactly
+
+pub returns-clause-answer : goal.returns-clause-answer
+returns-clause-answer g c =
+    let s = c.args.self.now in
+    let l = c.args.layout.now in
+    let packet = packet_told _ _ (known g s.mis s.tis l.code.now s.mis_points s.tis_points s.data_points) l.plan.now l.mode l.roomy (cells_in c.args.received.numbers.now)
+    c.read_block.new.block (carried c.in_ok-packet.packet) (c.read_block.auto.block ∙ c.requires.block) c.in_ok-packet.ensures.exactly c.in_ok-read_block.ensures.told in
+    (c.mode.ensures, c.in_ok-mis.ensures.told, c.in_ok-tis.ensures.told, packet.0, packet.1)
+
+pub returns-clause-reads_sent : goal.returns-clause-reads_sent
+returns-clause-reads_sent g c =
+    let s = c.args.self.now in
+    let l = c.args.layout.now in
+    let e = c.mode.ensures in
+    rw e (reads_sent _ _ (known g s.mis s.tis l.code.now s.mis_points s.tis_points s.data_points) l.plan.now l.mode l.roomy (cells_in c.args.received.numbers.now)
+    c.in_ok-mis.mis c.in_ok-tis.tis c.read_block.new.block (carried c.in_ok-packet.packet)
+    c.in_ok-mis.ensures.as_sent c.in_ok-tis.ensures.as_sent c.in_ok-read_block.ensures.as_sent c.in_ok-packet.ensures.exactly)
+
+pub returns-clause-has_frame : goal.returns-clause-has_frame
+returns-clause-has_frame g c =
+    let s = c.args.self.now in
+    let l = c.args.layout.now in
+    has_frame _ _ (known g s.mis s.tis l.code.now s.mis_points s.tis_points s.data_points) l.plan.now l.mode l.roomy (cells_in c.args.received.numbers.now) _ (returns-clause-answer g c)
