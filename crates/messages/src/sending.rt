@@ -24,8 +24,8 @@ pub struct Sender {
 }
 
 impl Sender {
-    ghost use Rattle.std.specs.Prelude.{◌≡◌, IfOk};
-    ghost use Rattle.messages.specs.SenderCalls.{new_sender, Loading, Nexting, Clearing};
+    ghost use Rattle.std.specs.Prelude.{◌≡◌, ◌<◌, IfOk};
+    ghost use Rattle.messages.specs.SenderCalls.{new_sender, is_loaded, Loading, Nexting, Clearing};
     ghost use Rattle.messages.specs.Views.{sender_state};
 
     // A sender of packets with `piece_length` bytes of data, 1 to 1434.
@@ -59,9 +59,17 @@ impl Sender {
         Ok(())
     }
 
+    // Whether a message is loaded.
+    pub fn is_loaded(&self) -> bool
+        ensures { result ≡ is_loaded self.now.progress }
+    {
+        !matches!(self.progress, Progress::Idle)
+    }
+
     // The next packet: its data goes to the front of `bytes`.
     pub fn next(&mut self, bytes: &mut [u8; 1434]) -> Result<NextPacket, Refusal>
-        ensures { Nexting (sender_state self.old) (sender_state self.new) bytes.old bytes.new result }
+        ensures packet { Nexting (sender_state self.old) (sender_state self.new) bytes.old bytes.new result }
+        ensures fits { IfOk result (λ r. (r.header.id < 1024) × (1 ≤ r.length) × (r.length ≤ self.old.piece_length.bytes)) }
     {
         let id = self.progress.piece().ok_or(Refusal::NothingLoaded)?;
         let count = self.piece_length.count(self.message.len());
