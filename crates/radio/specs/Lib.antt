@@ -1,0 +1,4 @@
+pub mod ExciterCalls
+pub mod Lines
+pub mod ReceiverCalls
+pub mod States
