@@ -10,13 +10,16 @@ use frames::Channel;
 use lineup::line_up::LineUp;
 use messages::Sender;
 use modes::Station;
-use packets::{Packet, write_packet};
+use packets::{MOST_BLOCK, Packet, write_packet};
 use refusals::Refusal;
 use staircase::data_code::DataCode;
 use std::alloc::{AllocError, Global};
 
 // The bytes of a packet beside its data.
 const AROUND_DATA: usize = 6;
+
+// The most data of a packet.
+const MOST_DATA: usize = MOST_BLOCK - AROUND_DATA;
 
 #[derive(Drop)]
 pub(crate) struct Exciter<
@@ -46,12 +49,20 @@ impl<
     B: Constellation,
     C: Constellation,
 > Exciter<'a, M, T, D, A, B, C> {
+    ghost use Rattle.std.specs.Prelude.{length};
+    ghost use Rattle.frames.specs.Frames.{sending};
+    ghost use Rattle.radio.specs.ExciterCalls.{Clears, Loads, Sends, Stations, new_exciter};
+    ghost use Rattle.radio.specs.Lines.{line};
+    ghost use Rattle.radio.specs.States.{exciter_state};
+
     // A new exciter on a copy of a line-up has no station and no message.
     pub(crate) fn new(
         heap: Global,
         channel: &'a Channel<M, T, A, B, C>,
         line_up: &LineUp<D>,
-    ) -> Result<Self, AllocError> {
+    ) -> Result<Self, AllocError>
+        ensures { IfOk result (λ e. exciter_state e ≡ new_exciter (line (sending (M.SendingCode.word channel.now.mis) (T.SendingCode.word channel.now.tis) (D.SendingCode.word line_up.now.code) (A.Constellation.point channel.now.mis_points) (B.Constellation.point channel.now.tis_points) (C.Constellation.point channel.now.data_points) (D.SendingCode.message_length line_up.now.code) (D.SendingCode.word_length line_up.now.code)) line_up.now.mode line_up.now.plan.items (block_length (view_of line_up.now)))) }
+    {
         let line_up = line_up.clone()?;
         let piece_length = line_up.block_length().saturating_sub(AROUND_DATA);
         let sender = Sender::new(heap, piece_length)?;
@@ -61,5 +72,65 @@ impl<
             station: None,
             sender,
         })
+    }
+
+    // The station record that frames carry from now on.
+    pub(crate) fn station(
+        &mut self,
+        station: u32,
+        hour: u32,
+        minute: u32,
+        duration: u32,
+    ) -> Result<(), Refusal>
+        ensures { Stations (exciter_state self.old) (exciter_state self.new) station hour minute duration result }
+    {
+        let record = Station::new(station, hour, minute, duration).ok_or(
+            Refusal::StationOutOfRange,
+        )?;
+        self.station = Some(record);
+        Ok(())
+    }
+
+    // Copies a message, which is sent from its first piece on.
+    pub(crate) fn load(&mut self, message: &[u8]) -> Result<(), Refusal>
+        ensures { Loads (exciter_state self.old) (exciter_state self.new) message.now result }
+    {
+        if self.line_up.mode().is_none() {
+            return Err(Refusal::EmptyLineUp);
+        }
+        self.sender.load(message)
+    }
+
+    // Writes the next piece's frame, two numbers a cell.
+    pub(crate) fn send(&mut self, numbers: &mut [i16]) -> Result<(), Refusal>
+        ensures { Sends (exciter_state self.old) (exciter_state self.new) numbers.old numbers.new result }
+    {
+        let layout = self.line_up.layout().ok_or(Refusal::EmptyLineUp)?;
+        if !self.sender.is_loaded() {
+            return Err(Refusal::NothingLoaded);
+        }
+        let station = self.station.ok_or(Refusal::NoStation)?;
+        if numbers.len() != 2 * layout.plan().len() {
+            return Err(Refusal::SliceLength);
+        }
+        let mut data = [0; MOST_DATA];
+        let next = self.sender.next(&mut data)?;
+        let packet = Packet {
+            header: next.header,
+            data: &data[..next.length],
+        };
+        let mut store = [0; MOST_BLOCK];
+        let block = &mut store[..layout.block_length()];
+        // there is room, so this does not fail
+        let _ = write_packet(packet, block);
+        self.channel.write_frame(&layout, station, block, numbers);
+        Ok(())
+    }
+
+    // Drops the message.
+    pub(crate) fn clear(&mut self) -> Result<(), Refusal>
+        ensures { Clears (exciter_state self.old) (exciter_state self.new) result }
+    {
+        self.sender.clear()
     }
 }
