@@ -1,4 +1,5 @@
 pub mod ExciterCalls
 pub mod Lines
+pub mod NextBlock
 pub mod ReceiverCalls
 pub mod States

@@ -4,22 +4,17 @@ ghost use Rattle.lineup.specs.Views.{block_length, view_of};
 ghost use Rattle.messages.specs.Pieces.{piece_length_of};
 ghost use Rattle.messages.specs.Views.{sender_state};
 
+use crate::next::{AROUND_DATA, write_next};
 use cells::Constellation;
 use codes::lengths::FixedCode;
 use frames::Channel;
 use lineup::line_up::LineUp;
 use messages::Sender;
 use modes::Station;
-use packets::{MOST_BLOCK, Packet, write_packet};
+use packets::MOST_BLOCK;
 use refusals::Refusal;
 use staircase::data_code::DataCode;
 use std::alloc::{AllocError, Global};
-
-// The bytes of a packet beside its data.
-const AROUND_DATA: usize = 6;
-
-// The most data of a packet.
-const MOST_DATA: usize = MOST_BLOCK - AROUND_DATA;
 
 #[derive(Drop)]
 pub(crate) struct Exciter<
@@ -113,16 +108,9 @@ impl<
         if numbers.len() != 2 * layout.plan().len() {
             return Err(Refusal::SliceLength);
         }
-        let mut data = [0; MOST_DATA];
-        let next = self.sender.next(&mut data)?;
-        let packet = Packet {
-            header: next.header,
-            data: &data[..next.length],
-        };
         let mut store = [0; MOST_BLOCK];
         let block = &mut store[..layout.block_length()];
-        // there is room, so this does not fail
-        let _ = write_packet(packet, block);
+        write_next(&mut self.sender, block)?;
         self.channel.write_frame(&layout, station, block, numbers);
         Ok(())
     }

@@ -3,5 +3,6 @@
 
 mod answer;
 mod exciter;
+mod next;
 
 pub use answer::Taken;
