@@ -24,7 +24,7 @@ use Rattle.frames.specs.Laying.{picked}
 use Rattle.frames.specs.Reading.{BlockAsSent, BlockWithin, FrameAnswer, HasFrame, Mending, ModeAsSent, ReadsSent, StationAsSent, Told, WithinReach, data_stream, mis_symbols, tis_symbols, wrong_mis, wrong_tis}
 use Rattle.frames.specs.Words.{part, wrong_bits}
 use Rattle.frames.specs.declared.fault.FrameFault.{FrameFault}
-use Rattle.frames.proofs.Sent.{Known, message_bits, mis_sent, mis_word_sent, part_sent, tis_sent, tis_word_sent}
+use Rattle.frames.proofs.Sent.{DataKnown, StreamKnown, message_bits, mis_sent, mis_word_sent, part_sent, tis_sent, tis_word_sent}
 use Rattle.frames.proofs.Within.{words_wrong}
 
 -- the block of a packet that fits
@@ -37,21 +37,27 @@ unfolding block_of
 block_octets size packet =
     below-append 256 (packet_bytes packet) _ (cut_below 8 (packet_length packet) (packet_bits packet)) (below-replicate 256 (size - packet_length packet) 0 (lit< tt))
 
+-- what is known of all codes and constellations
+pub record Known (s : Sending) (m : Mending) : Type 0 where
+  pub mis : StreamKnown 2 4 s.mis_word s.mis_point m.mis_decided
+  pub tis : StreamKnown 9 29 s.tis_word s.tis_point m.tis_decided
+  pub «data» : DataKnown s.k s.n s.data_word s.data_point m.data_decided
+
 module _ (s : Sending) (m : Mending) (known : Known s m) (plan : List CellKind) (mode : Mode) (roomy : Roomy mode plan s.k s.n) (cells : List Cell) where
   -- in how many places the cells differ from a frame, by the cells and bits of its streams
   module _ (station : Station) (block : List ℕ) where
     mis_wrong : wrong_mis m plan mode (block_frame s plan mode station block) cells
         ≡ wrong_symbols (m.mis_decided Four) 4 (mis_cells s.mis_word (s.mis_point Four) (stated_mis mode)) (picked Mis plan cells)
-    mis_wrong = ap (λ l. differing (λ (x : ℕ). x) l (mis_symbols m plan mode cells)) (mis_sent s m known plan mode roomy station block)
+    mis_wrong = ap (λ l. differing (λ (x : ℕ). x) l (mis_symbols m plan mode cells)) (mis_sent s m plan mode station block known.mis roomy.mis)
 
     tis_wrong : wrong_tis m plan mode (block_frame s plan mode station block) cells
         ≡ wrong_symbols (m.tis_decided (tis_order mode.tis)) 29 (tis_cells s.tis_word s.tis_point mode.tis (stated_tis mode station)) (picked Tis plan cells)
-    tis_wrong = ap (λ l. differing (λ (x : ℕ). x) l (tis_symbols m plan mode cells)) (tis_sent s m known plan mode roomy station block)
+    tis_wrong = ap (λ l. differing (λ (x : ℕ). x) l (tis_symbols m plan mode cells)) (tis_sent s m plan mode station block known.tis roomy.tis)
 
     bits_wrong : length block ≡ block_length_of mode s.k → (i : ℕ) → i < words_of mode →
         wrong_bits s.n i (data_stream m plan mode (block_frame s plan mode station block)) (data_stream m plan mode cells) ≡ wrong_bits s.n i (data_bits s mode block) (data_stream m plan mode cells)
     bits_wrong size i h =
-        ap (λ l. differing bit_number l (part s.n i (data_stream m plan mode cells))) (part_sent s m known plan mode roomy station block size i h)
+        ap (λ l. differing bit_number l (part s.n i (data_stream m plan mode cells))) (part_sent s m plan mode station block known.«data» roomy size i h)
 
   -- the frame of a packet is within reach
   module _ (station : Station) (packet : Content) (fits : Fits (block_length_of mode s.k) packet) (near : WithinReach m plan mode s.n (frame_of s plan mode station packet) cells) where
@@ -117,10 +123,10 @@ module _ (s : Sending) (m : Mending) (known : Known s m) (plan : List CellKind) 
       let block = block_of (block_length_of mode s.k) t.stated.packet in
       let size = block_size (block_length_of mode s.k) t.stated.packet h.3 in
       let mis : wrong_mis m plan mode (block_frame s plan mode station block) cells ≡ t.mis_mended =
-      ap (λ l. differing (λ (x : ℕ). x) l (mis_symbols m plan mode cells)) (mis_sent s m known plan mode roomy station block ∙ mis_word_sent s m known plan mode roomy station block) ∙ h.1.places in
+      ap (λ l. differing (λ (x : ℕ). x) l (mis_symbols m plan mode cells)) (mis_word_sent s m plan mode station block known.mis roomy.mis) ∙ h.1.places in
       let tis : wrong_tis m plan mode (block_frame s plan mode station block) cells ≡ t.tis_mended =
-      ap (λ l. differing (λ (x : ℕ). x) l (tis_symbols m plan mode cells)) (tis_sent s m known plan mode roomy station block ∙ tis_word_sent s m known plan mode roomy station block) ∙ h.2.places in
-      let words = words_wrong s.data_word m.data_reach s.k s.n known.data_sized (words_of mode) (data_stream m plan mode cells) (scrambled 0 (spread 8 block)) (message_bits s m known plan mode roomy station block size) h.4 in (
+      ap (λ l. differing (λ (x : ℕ). x) l (tis_symbols m plan mode cells)) (tis_word_sent s m plan mode station block known.tis roomy.tis) ∙ h.2.places in
+      let words = words_wrong s.data_word m.data_reach s.k s.n known.«data».sized (words_of mode) (data_stream m plan mode cells) (scrambled 0 (spread 8 block)) (message_bits s m plan mode station block known.«data» roomy size) h.4 in (
         record {
           mis = omega (arith, mis, h.1.near);
           tis = omega (arith, tis, h.2.near);

@@ -1,14 +1,13 @@
 -- What is read of a frame that was sent: its streams' cells, symbols and bits. Assumes nothing.
-use Rattle.std.proofs.Common.{◌≡◌, ℕ, zero, suc, ◌+◌, ◌*◌, ◌/◌, ◌<◌, ◌≤◌, Bool, true, false, cond, List, [], ◌∷◌, ◌++◌, length, take, drop, refl, sym, ap, ◌∙◌, mul_assoc, mul-zero, mul-suc, suc-mul, zero-mul, take-add, arith}
-use Rattle.std.proofs.lemmas.Int.{ints}
+use Rattle.std.proofs.Common.{◌≡◌, ℕ, zero, suc, ◌+◌, ◌*◌, ◌/◌, ◌<◌, ◌≤◌, Bool, true, false, cond, List, [], ◌∷◌, ◌++◌, length, take, drop, refl, sym, ap, ◌∙◌, mul_assoc, mul_comm, mul-zero, mul-suc, suc-mul, zero-mul, take-add, arith}
 use Rattle.std.proofs.lemmas.List.{drop_at, drop-drop, drop-take, length-append, length-drop, length-take-le, take_all, take_at, take-take}
 use Rattle.codes.specs.Symbols.{Below128}
 use Rattle.bits.specs.Bits.{cut, spread}
 use Rattle.bits.specs.Scrambling.{scrambled}
 use Rattle.bits.proofs.Bits.{cut-below_128, length-spread, length_cut}
 use Rattle.bits.proofs.Sequences.{length-scrambled}
-use Rattle.cells.specs.Cells.{Near, Steady, cell_bits}
-use Rattle.cells.specs.Mapping.{Moved, decided_bits, mapped}
+use Rattle.cells.specs.Cells.{Steady, cell_bits}
+use Rattle.cells.specs.Mapping.{decided_bits, mapped}
 use Rattle.cells.specs.declared.cell.Cell.{Cell}
 use Rattle.cells.specs.declared.cell.Order.{Order}
 use Rattle.cells.specs.declared.cell.Order.TheVariants.{Four}
@@ -19,21 +18,20 @@ use Rattle.lineup.specs.declared.mode.Mode.{Mode}
 use Rattle.lineup.specs.Layouts.{Roomy, block_length_of, kind_count, words_of}
 use Rattle.lineup.specs.Kinds.{kind_number, plan_bytes}
 use Rattle.lineup.specs.Stated.{stated_mis, stated_tis}
-use Rattle.modes.specs.Modes.{data_number, tis_count}
-use Rattle.modes.specs.declared.mode.DataConstellation.{DataConstellation}
-use Rattle.modes.specs.declared.mode.DataConstellation.TheVariants.{Qam4 as Data4, Qam16 as Data16, Qam64 as Data64}
+use Rattle.modes.specs.Modes.{tis_count}
 use Rattle.modes.specs.declared.mode.TisConstellation.{TisConstellation}
 use Rattle.modes.specs.declared.mode.TisConstellation.TheVariants.{Qam4 as Tis4, Qam16 as Tis16}
 use Rattle.modes.specs.declared.station.Station.{Station}
-use Rattle.modem.specs.Carrying.{cells_of, symbols_of}
+use Rattle.modem.specs.Carrying.{symbols_of}
 use Rattle.modem.specs.MisStream.{mis_cells, mis_message}
 use Rattle.modem.specs.TisStream.{tis_cells, tis_message, tis_order}
-use Rattle.modem.proofs.Carries.{cut_front, symbols_near}
+use Rattle.modem.proofs.Carries.{cut_front}
 use Rattle.frames.specs.Frames.{Sending, block_frame, data_bits, data_cells, data_order}
 use Rattle.frames.specs.Laying.{cell_for, first, laid, left, of_kind, picked}
 use Rattle.frames.specs.Reading.{Mending, data_stream, mis_symbols, tis_symbols}
 use Rattle.frames.specs.Words.{coded, part}
 use Rattle.frames.proofs.OnPlans.{counted, is_counted}
+use Rattle.frames.proofs.OnStreams.{sent_symbols, still, tis_more_room, tis_room, word_bits}
 
 -- the first n cells of a stream, (0, 0) where none is left
 pub padded : ℕ → List Cell → List Cell
@@ -110,21 +108,6 @@ module _ (decided : Cell → List Bool) (w : ℕ) (sized : (x : Cell) → length
   same_symbols n c xs ys room e =
       sym (cut_front 7 n (w * c) (decided_bits decided xs) room) ∙ ap (cut 7 n) (same_bits c xs ys e) ∙ cut_front 7 n (w * c) (decided_bits decided ys) room
 
--- cells that did not move at all
-near_self : (x : Cell) → Near 255 x x
-near_self x = (omega (arith, ints), omega (arith, ints))
-
-pub moved_self : (xs : List Cell) → Moved xs xs
-moved_self [] = tt
-moved_self (x ∷ xs) = (near_self x, moved_self xs)
-
--- the cells of a word are decided for its symbols
-pub symbols_sent : (point : List Bool → Cell) (decided : Cell → List Bool) (width count n : ℕ) (word : List ℕ) →
-    Steady point width decided → length word ≡ n → Below128 (λ (x : ℕ). x) word → n * 7 ≤ width * count →
-    symbols_of decided n (cells_of point width count word) ≡ word
-symbols_sent point decided width count n word steady size below room =
-    symbols_near point decided width count n word (cells_of point width count word) steady size below room (moved_self (cells_of point width count word))
-
 pub cells_mapped : (point : List Bool → Cell) (width count : ℕ) (bits : List Bool) → length (mapped point width count bits) ≡ count
 unfolding mapped
 cells_mapped point width zero bits = refl
@@ -188,36 +171,28 @@ module _ (word : List Bool → List Bool) (k n : ℕ) (sized : (x : List Bool) �
       ∙ coded_part count i (drop k messages) (omega arith) (left_size count messages e)
       ∙ ap word (sym (part_next k i messages))
 
--- what is known of the codes' words and of the constellations
-pub record Known (s : Sending) (m : Mending) : Type 0 where
-  pub mis_sized : (x : List ℕ) → length x ≡ 2 → length (s.mis_word x) ≡ 4
-  pub mis_below : (x : List ℕ) → length x ≡ 2 → Below128 (λ (y : ℕ). y) x → Below128 (λ (y : ℕ). y) (s.mis_word x)
-  pub tis_sized : (x : List ℕ) → length x ≡ 9 → length (s.tis_word x) ≡ 29
-  pub tis_below : (x : List ℕ) → length x ≡ 9 → Below128 (λ (y : ℕ). y) x → Below128 (λ (y : ℕ). y) (s.tis_word x)
-  pub data_sized : (x : List Bool) → length x ≡ s.k → length (s.data_word x) ≡ s.n
-  pub mis_bits : (o : Order) (x : Cell) → length (m.mis_decided o x) ≡ cell_bits o
-  pub mis_steady : (o : Order) → Steady (s.mis_point o) (cell_bits o) (m.mis_decided o)
-  pub tis_bits : (o : Order) (x : Cell) → length (m.tis_decided o x) ≡ cell_bits o
-  pub tis_steady : (o : Order) → Steady (s.tis_point o) (cell_bits o) (m.tis_decided o)
-  pub data_bits : (o : Order) (x : Cell) → length (m.data_decided o x) ≡ cell_bits o
-  pub data_steady : (o : Order) → Steady (s.data_point o) (cell_bits o) (m.data_decided o)
+-- what is known of the code and the constellation of a stream of symbols
+pub record StreamKnown (k n : ℕ) (word : List ℕ → List ℕ) (point : Order → List Bool → Cell) (decided : Order → Cell → List Bool) : Type 0 where
+  pub sized : (x : List ℕ) → length x ≡ k → length (word x) ≡ n
+  pub below : (x : List ℕ) → length x ≡ k → Below128 (λ (y : ℕ). y) x → Below128 (λ (y : ℕ). y) (word x)
+  pub bits : (o : Order) (x : Cell) → length (decided o x) ≡ cell_bits o
+  pub steady : (o : Order) → Steady (point o) (cell_bits o) (decided o)
 
--- the cells of the TIS suffice for its word, and all of its cells too
-pub tis_room : (t : TisConstellation) → (29 * 7 ≤ cell_bits (tis_order t) * tis_count t) × (29 * 7 ≤ cell_bits (tis_order t) * 102) × (tis_count t ≤ 102)
-tis_room Tis4 = (omega arith, omega arith, omega arith)
-tis_room Tis16 = (omega arith, omega arith, omega arith)
+-- and of those of the data
+pub record DataKnown (k n : ℕ) (word : List Bool → List Bool) (point : Order → List Bool → Cell) (decided : Order → Cell → List Bool) : Type 0 where
+  pub sized : (x : List Bool) → length x ≡ k → length (word x) ≡ n
+  pub bits : (o : Order) (x : Cell) → length (decided o x) ≡ cell_bits o
+  pub steady : (o : Order) → Steady (point o) (cell_bits o) (decided o)
 
--- a cell of the data has two bits of each data word
-order_words : (d : DataConstellation) → cell_bits (data_order d) ≡ (data_number d + 1) * 2
-order_words Data4 = refl
-order_words Data16 = refl
-order_words Data64 = refl
+tis_few : (t : TisConstellation) → tis_count t ≤ 102
+tis_few Tis4 = omega arith
+tis_few Tis16 = omega arith
 
--- so have all cells of half a word's bits
-words_room : (words w n : ℕ) → w ≡ words * 2 → 2 * (n / 2) ≡ n → w * (n / 2) ≡ words * n
-words_room words w n e even = rw e (mul_assoc words 2 (n / 2) ∙ ap (λ i. words * i) even)
+-- all cells of half a word's bits have the bits of all words
+words_room : (words w n : ℕ) → w ≡ 2 * words → 2 * (n / 2) ≡ n → w * (n / 2) ≡ words * n
+words_room words w n e even = rw (e, mul_comm 2 words) (mul_assoc words 2 (n / 2) ∙ ap (λ i. words * i) even)
 
-module _ (s : Sending) (m : Mending) (known : Known s m) (plan : List CellKind) (mode : Mode) (roomy : Roomy mode plan s.k s.n) (station : Station) (block : List ℕ) where
+module _ (s : Sending) (m : Mending) (plan : List CellKind) (mode : Mode) (station : Station) (block : List ℕ) where
   abbrev sent_mis : List Cell
   sent_mis = mis_cells s.mis_word (s.mis_point Four) (stated_mis mode)
 
@@ -231,45 +206,46 @@ module _ (s : Sending) (m : Mending) (known : Known s m) (plan : List CellKind) 
   frame = block_frame s plan mode station block
 
   -- the symbols of the MIS are those of its cells, which are its word
-  pub mis_sent : mis_symbols m plan mode frame ≡ symbols_of (m.mis_decided Four) 4 sent_mis
-  mis_sent =
-      ap (symbols_of (m.mis_decided Four) 4) (picked_mis plan sent_mis sent_tis sent_data)
-      ∙ same_symbols (m.mis_decided Four) 2 (known.mis_bits Four) 4 14 (padded (kind_count Mis plan) sent_mis) sent_mis (omega arith)
-      (padded_front 14 (kind_count Mis plan) sent_mis roomy.mis (omega (arith, cells_mapped (s.mis_point Four) 2 14 (spread 7 (s.mis_word (mis_message (stated_mis mode)))))))
+  module _ (known : StreamKnown 2 4 s.mis_word s.mis_point m.mis_decided) where
+    pub mis_sent : 14 ≤ kind_count Mis plan → mis_symbols m plan mode frame ≡ symbols_of (m.mis_decided Four) 4 sent_mis
+    mis_sent room =
+        ap (symbols_of (m.mis_decided Four) 4) (picked_mis plan sent_mis sent_tis sent_data)
+        ∙ same_symbols (m.mis_decided Four) 2 (known.bits Four) 4 14 (padded (kind_count Mis plan) sent_mis) sent_mis (omega arith)
+        (padded_front 14 (kind_count Mis plan) sent_mis room (omega (arith, cells_mapped (s.mis_point Four) 2 14 (spread 7 (s.mis_word (mis_message (stated_mis mode)))))))
 
-  pub mis_word_sent : symbols_of (m.mis_decided Four) 4 sent_mis ≡ s.mis_word (mis_message (stated_mis mode))
-  mis_word_sent =
-      let message = mis_message (stated_mis mode) in
-      let size : length message ≡ 2 = length_cut 7 2 _ in
-      symbols_sent (s.mis_point Four) (m.mis_decided Four) 2 14 4 (s.mis_word message) (known.mis_steady Four)
-      (known.mis_sized message size) (known.mis_below message size (cut-below_128 2 _)) (omega arith)
+    pub mis_word_sent : 14 ≤ kind_count Mis plan → mis_symbols m plan mode frame ≡ s.mis_word (mis_message (stated_mis mode))
+    mis_word_sent room =
+        let message = mis_message (stated_mis mode) in
+        let size : length message ≡ 2 = length_cut 7 2 _ in
+        mis_sent room ∙ sent_symbols (s.mis_point Four) (m.mis_decided Four) 2 14 4 (s.mis_word message) (known.steady Four)
+        (known.sized message size) (known.below message size (cut-below_128 2 _)) (omega arith)
 
   -- and so are those of the TIS
-  pub tis_sent : tis_symbols m plan mode frame ≡ symbols_of (m.tis_decided (tis_order mode.tis)) 29 sent_tis
-  tis_sent =
-      let o = tis_order mode.tis in
-      let c = tis_count mode.tis in
-      let room = tis_room mode.tis in
-      let size = cells_mapped (s.tis_point o) (cell_bits o) 102 (spread 7 (s.tis_word (tis_message (stated_tis mode station)))) in
-      ap (symbols_of (m.tis_decided o) 29) (picked_tis plan sent_mis sent_tis sent_data)
-      ∙ same_symbols (m.tis_decided o) (cell_bits o) (known.tis_bits o) 29 c (padded (kind_count Tis plan) sent_tis) sent_tis room.0
-      (padded_front c (kind_count Tis plan) sent_tis roomy.tis (omega (arith, size, room.2)))
+  module _ (known : StreamKnown 9 29 s.tis_word s.tis_point m.tis_decided) where
+    pub tis_sent : tis_count mode.tis ≤ kind_count Tis plan → tis_symbols m plan mode frame ≡ symbols_of (m.tis_decided (tis_order mode.tis)) 29 sent_tis
+    tis_sent room =
+        let o = tis_order mode.tis in
+        let c = tis_count mode.tis in
+        let size = cells_mapped (s.tis_point o) (cell_bits o) 102 (spread 7 (s.tis_word (tis_message (stated_tis mode station)))) in
+        ap (symbols_of (m.tis_decided o) 29) (picked_tis plan sent_mis sent_tis sent_data)
+        ∙ same_symbols (m.tis_decided o) (cell_bits o) (known.bits o) 29 c (padded (kind_count Tis plan) sent_tis) sent_tis (tis_room mode.tis)
+        (padded_front c (kind_count Tis plan) sent_tis room (omega (arith, size, tis_few mode.tis)))
 
-  pub tis_word_sent : symbols_of (m.tis_decided (tis_order mode.tis)) 29 sent_tis ≡ s.tis_word (tis_message (stated_tis mode station))
-  tis_word_sent =
-      let o = tis_order mode.tis in
-      let message = tis_message (stated_tis mode station) in
-      let size : length message ≡ 9 = length_cut 7 9 _ in
-      symbols_sent (s.tis_point o) (m.tis_decided o) (cell_bits o) 102 29 (s.tis_word message) (known.tis_steady o)
-      (known.tis_sized message size) (known.tis_below message size (cut-below_128 9 _)) (tis_room mode.tis).1
+    pub tis_word_sent : tis_count mode.tis ≤ kind_count Tis plan → tis_symbols m plan mode frame ≡ s.tis_word (tis_message (stated_tis mode station))
+    tis_word_sent room =
+        let o = tis_order mode.tis in
+        let message = tis_message (stated_tis mode station) in
+        let size : length message ≡ 9 = length_cut 7 9 _ in
+        tis_sent room ∙ sent_symbols (s.tis_point o) (m.tis_decided o) (cell_bits o) 102 29 (s.tis_word message) (known.steady o)
+        (known.sized message size) (known.below message size (cut-below_128 9 _)) (tis_more_room mode.tis)
 
-  module _ (size : length block ≡ block_length_of mode s.k) where
+  module _ (known : DataKnown s.k s.n s.data_word s.data_point m.data_decided) (roomy : Roomy mode plan s.k s.n) (size : length block ≡ block_length_of mode s.k) where
     -- the messages of the data words
     pub message_bits : length (scrambled 0 (spread 8 block)) ≡ words_of mode * s.k
     message_bits = omega (arith, length-scrambled 0 (spread 8 block), length-spread 8 block, roomy.octets)
 
-    word_bits : length (data_bits s mode block) ≡ words_of mode * s.n
-    word_bits = length-coded s.data_word s.k s.n known.data_sized (words_of mode) (scrambled 0 (spread 8 block)) message_bits
+    coded_bits : length (data_bits s mode block) ≡ words_of mode * s.n
+    coded_bits = length-coded s.data_word s.k s.n known.sized (words_of mode) (scrambled 0 (spread 8 block)) message_bits
 
     -- the first bits of the data are those of the words
     pub data_sent : take (words_of mode * s.n) (data_stream m plan mode frame) ≡ data_bits s mode block
@@ -277,12 +253,12 @@ module _ (s : Sending) (m : Mending) (known : Known s m) (plan : List CellKind) 
         let o = data_order mode.«data» in
         let c = s.n / 2 in
         let bits = data_bits s mode block in
-        let room : cell_bits o * c ≡ words_of mode * s.n = words_room (words_of mode) (cell_bits o) s.n (order_words mode.«data») roomy.pairs in
+        let room : cell_bits o * c ≡ words_of mode * s.n = words_room (words_of mode) (cell_bits o) s.n (word_bits mode.«data») roomy.pairs in
         let count = cells_mapped (s.data_point o) (cell_bits o) c bits in
         let front = padded_front c (kind_count Data plan) sent_data roomy.«data» (omega (arith, count)) in
-        let same = same_bits (m.data_decided o) (cell_bits o) (known.data_bits o) c (padded (kind_count Data plan) sent_data) sent_data front in
-        let steady = steady_stream (s.data_point o) (cell_bits o) (m.data_decided o) (known.data_steady o) c bits sent_data (omega (arith, word_bits, room)) (moved_self sent_data) in
-        let all : take (words_of mode * s.n) (decided_bits (m.data_decided o) sent_data) ≡ bits = rw word_bits at steady in
+        let same = same_bits (m.data_decided o) (cell_bits o) (known.bits o) c (padded (kind_count Data plan) sent_data) sent_data front in
+        let steady = steady_stream (s.data_point o) (cell_bits o) (m.data_decided o) (known.steady o) c bits sent_data (omega (arith, coded_bits, room)) (still sent_data) in
+        let all : take (words_of mode * s.n) (decided_bits (m.data_decided o) sent_data) ≡ bits = rw coded_bits at steady in
         ap (λ l. take (words_of mode * s.n) (decided_bits (m.data_decided o) l)) (picked_data plan sent_mis sent_tis sent_data)
         ∙ rw room at same ∙ all
 
@@ -290,5 +266,5 @@ module _ (s : Sending) (m : Mending) (known : Known s m) (plan : List CellKind) 
     pub part_sent : (i : ℕ) → i < words_of mode → part s.n i (data_stream m plan mode frame) ≡ part s.n i (data_bits s mode block)
     part_sent i h = sym (part_front s.n (words_of mode) i (data_stream m plan mode frame) h) ∙ ap (part s.n i) data_sent
 
-    pub word_sent : (i : ℕ) → i < words_of mode → part s.n i (data_bits s mode block) ≡ s.data_word (part s.k i (scrambled 0 (spread 8 block)))
-    word_sent i h = coded_part s.data_word s.k s.n known.data_sized (words_of mode) i (scrambled 0 (spread 8 block)) h message_bits
+    pub word_sent : (i : ℕ) → i < words_of mode → part s.n i (data_stream m plan mode frame) ≡ s.data_word (part s.k i (scrambled 0 (spread 8 block)))
+    word_sent i h = part_sent i h ∙ coded_part s.data_word s.k s.n known.sized (words_of mode) i (scrambled 0 (spread 8 block)) h message_bits

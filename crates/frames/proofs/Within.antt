@@ -1,35 +1,11 @@
 -- What is read of cells: words within reach by their numbers, and that a frame within reach is the frame that is read. Assumes nothing.
-use Rattle.std.proofs.Common.{◌≡◌, ℕ, zero, suc, ◌+◌, ◌*◌, ◌<◌, ◌≤◌, Bool, List, ◌++◌, length, take, drop, Ok, Err, Result, sym, ap, ◌∙◌, suc-mul, zero-mul, arith}
+use Rattle.std.proofs.Common.{◌≡◌, ℕ, zero, suc, ◌+◌, ◌*◌, ◌<◌, ◌≤◌, Bool, List, ◌++◌, length, take, drop, sym, ap, ◌∙◌, suc-mul, zero-mul, arith}
 use Rattle.std.proofs.lemmas.List.{length-drop, length-take-le, nil_from_length, take-append-drop}
 use Rattle.codes.specs.Symbols.{Below128, bit_number, differing}
 use Rattle.codes.proofs.Mends.{one_within}
 use Rattle.staircase.specs.Near.{below-bits}
-use Rattle.cells.specs.declared.cell.Cell.{Cell}
-use Rattle.cells.specs.declared.cell.Order.{Order}
-use Rattle.modes.specs.declared.mode.Mis.{Mis}
-use Rattle.modes.specs.declared.mode.TisConstellation.{TisConstellation}
-use Rattle.modes.specs.declared.station.Tis.{Tis}
-use Rattle.modem.specs.Carrying.{symbols_of}
-use Rattle.modem.specs.MisStream.{MisAnswer}
-use Rattle.modem.specs.TisStream.{TisAnswer, tis_order}
-use Rattle.modem.specs.declared.carrying.Reading.{Reading}
-use Rattle.modem.specs.declared.fault.StreamFault.{StreamFault}
-use Rattle.modem.specs.declared.fault.StreamFault.TheVariants.{Reach, Record}
 use Rattle.frames.specs.Words.{WordWithin, WordsWithin, coded, part, wrong_bits}
 use Rattle.frames.proofs.Sent.{coded_part, part_first, part_next}
-
--- the answer of a stream hangs on the symbols alone that its cells are decided for
-pub same_mis : (word : List ℕ → List ℕ) (reach : ℕ) (decided : Cell → List Bool) (xs ys : List Cell) (r : Result (Reading Mis) StreamFault) →
-    symbols_of decided 4 xs ≡ symbols_of decided 4 ys → MisAnswer word reach decided xs r → MisAnswer word reach decided ys r
-same_mis word reach decided xs ys (Ok got) e h = rw (← e) h
-same_mis word reach decided xs ys (Err (Reach f)) e h = rw (← e) h
-same_mis word reach decided xs ys (Err (Record f)) e h = rw (← e) h
-
-pub same_tis : (word : List ℕ → List ℕ) (reach : ℕ) (decided : Order → Cell → List Bool) (t : TisConstellation) (xs ys : List Cell) (r : Result (Reading Tis) StreamFault) →
-    symbols_of (decided (tis_order t)) 29 xs ≡ symbols_of (decided (tis_order t)) 29 ys → TisAnswer word reach decided t xs r → TisAnswer word reach decided t ys r
-same_tis word reach decided t xs ys (Ok got) e h = rw (← e) h
-same_tis word reach decided t xs ys (Err (Reach f)) e h = rw (← e) h
-same_tis word reach decided t xs ys (Err (Record f)) e h = rw (← e) h
 
 pub part_size : (k count i : ℕ) (messages : List Bool) → i < count → length messages ≡ count * k → length (part k i messages) ≡ k
 part_size k zero i messages h e = absurd (omega arith)
@@ -39,6 +15,17 @@ part_size k (suc count) zero messages h e =
 part_size k (suc count) (suc i) messages h e =
     let more : suc count * k ≡ count * k + k = suc-mul count k in
     ap length (part_next k i messages) ∙ part_size k count i (drop k messages) (omega arith) (length-drop k messages ∙ omega arith)
+
+-- bits with the same parts are the same
+pub same_parts : (k count : ℕ) (a b : List Bool) → length a ≡ count * k → length b ≡ count * k → ((i : ℕ) → i < count → part k i a ≡ part k i b) → a ≡ b
+same_parts k zero a b p q same = nil_from_length a (omega (arith, zero-mul k)) ∙ sym (nil_from_length b (omega (arith, zero-mul k)))
+same_parts k (suc count) a b p q same =
+    let more : suc count * k ≡ count * k + k = suc-mul count k in
+    let front : take k a ≡ take k b = rw (part_first k a, part_first k b) at (same 0 (omega arith)) in
+    let back : drop k a ≡ drop k b =
+    same_parts k count (drop k a) (drop k b) (length-drop k a ∙ omega arith) (length-drop k b ∙ omega arith)
+    (λ i h. rw (part_next k i a, part_next k i b) at (same (suc i) (omega arith))) in
+    sym (take-append-drop k a) ∙ ap (λ l. l ++ drop k a) front ∙ ap (λ l. take k b ++ l) back ∙ take-append-drop k b
 
 module _ (word : List Bool → List Bool) (reach k n : ℕ) where
   -- the word of each number is within reach

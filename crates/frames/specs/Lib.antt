@@ -5,3 +5,4 @@ pub mod Hearing
 pub mod Reading
 pub mod Tellings
 pub mod Faults
+pub mod Apart

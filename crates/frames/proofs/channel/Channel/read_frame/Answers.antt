@@ -5,8 +5,7 @@ use Rattle.packets.specs.Packets.{carried}
 use Rattle.frames.specs.Frames.{Sending, sending}
 use Rattle.frames.specs.Laying.{cells_in}
 use Rattle.frames.specs.Reading.{Mending, mending}
-use Rattle.frames.proofs.Sent.{Known}
-use Rattle.frames.proofs.FrameAnswers.{data_refused, has_frame, mis_refused, packet_refused, packet_told, reads_sent, tis_refused}
+use Rattle.frames.proofs.FrameAnswers.{Known, data_refused, has_frame, mis_refused, packet_refused, packet_told, reads_sent, tis_refused}
 use Rattle.frames.proofs.channel.Channel.read_frame.Given as given
 use Rattle.frames.proofs.channel.Channel.read_frame.Goals as goal
 
@@ -24,17 +23,23 @@ module _ (g : given.Over) (mis : g.row.M.Denot) (tis : g.row.T.Denot) (code : g.
   known : Known sends mends
   known =
       record {
-        mis_sized = λ x h. g.met.M.SendingCode.sized mis x (h ∙ sym (g.met.M.FixedCode.message mis)) ∙ g.met.M.FixedCode.word mis;
-        mis_below = λ x h l. g.met.M.SendingCode.below mis x (h ∙ sym (g.met.M.FixedCode.message mis)) l;
-        tis_sized = λ x h. g.met.T.SendingCode.sized tis x (h ∙ sym (g.met.T.FixedCode.message tis)) ∙ g.met.T.FixedCode.word tis;
-        tis_below = λ x h l. g.met.T.SendingCode.below tis x (h ∙ sym (g.met.T.FixedCode.message tis)) l;
-        data_sized = λ x h. g.met.D.SendingCode.sized code x h;
-        mis_bits = λ o x. g.met.A.Constellation.sized a o x;
-        mis_steady = λ o. g.met.A.Constellation.steady a o;
-        tis_bits = λ o x. g.met.B.Constellation.sized b o x;
-        tis_steady = λ o. g.met.B.Constellation.steady b o;
-        data_bits = λ o x. g.met.C.Constellation.sized d o x;
-        data_steady = λ o. g.met.C.Constellation.steady d o;
+        mis = record {
+          sized = λ x h. g.met.M.SendingCode.sized mis x (h ∙ sym (g.met.M.FixedCode.message mis)) ∙ g.met.M.FixedCode.word mis;
+          below = λ x h l. g.met.M.SendingCode.below mis x (h ∙ sym (g.met.M.FixedCode.message mis)) l;
+          bits = λ o x. g.met.A.Constellation.sized a o x;
+          steady = λ o. g.met.A.Constellation.steady a o;
+        };
+        tis = record {
+          sized = λ x h. g.met.T.SendingCode.sized tis x (h ∙ sym (g.met.T.FixedCode.message tis)) ∙ g.met.T.FixedCode.word tis;
+          below = λ x h l. g.met.T.SendingCode.below tis x (h ∙ sym (g.met.T.FixedCode.message tis)) l;
+          bits = λ o x. g.met.B.Constellation.sized b o x;
+          steady = λ o. g.met.B.Constellation.steady b o;
+        };
+        «data» = record {
+          sized = λ x h. g.met.D.SendingCode.sized code x h;
+          bits = λ o x. g.met.C.Constellation.sized d o x;
+          steady = λ o. g.met.C.Constellation.steady d o;
+        };
       }
 
 pub returns-in_err-mis-clause-reads_sent : goal.returns-in_err-mis-clause-reads_sent
