@@ -1,0 +1,39 @@
+use Rattle.std.proofs.Common.{◌≡◌, ℕ, ◌*◌, ◌≤◌, length, length-take, replicate, take, vec_items, Some, true, refl, sym, ap, ◌∙◌, subst, arith, rules}
+use lib.ListN.{length-replicate}
+use Rattle.std.proofs.lemmas.Bool.{eq-eqb}
+use Rattle.lineup.specs.Layouts.{block_length_of}
+use Rattle.messages.specs.SenderCalls.{advanced, is_loaded, next_packet}
+use Rattle.messages.specs.Views.{sender_state}
+use Rattle.packets.specs.Packets.{Fits}
+use Rattle.radio.specs.ExciterCalls.{with_sender}
+use Rattle.radio.specs.States.{exciter_state}
+use Rattle.radio.proofs.Calls.{passes_send}
+use Rattle.radio.proofs.exciter.Exciter.send.Goals as goal
+
+pub returns : goal.returns
+returns g c =
+    let s = c.args.self.now in
+    let layout = c.in_ok-layout.layout in
+    let k = g.D.SendingCode.message_length in
+    let laid : c.layout.result ≡ Some layout = search rules in
+    let parts = rw laid at c.layout.ensures.parts in
+    let block = rw laid at c.layout.ensures.block in
+    let station : s.station ≡ Some c.in_ok-station.station = search rules in
+    let loaded : is_loaded s.sender.progress ≡ true = search rules in
+    let two : length c.args.numbers.now ≡ 2 * length (vec_items s.line_up.plan) = search rules in
+    let most = layout.roomy.most in
+    let size : length (take c.block_length.result (replicate {A = ℕ} 1440 0)) ≡ block_length_of layout.mode (k layout.code.now) = rw (length-take, length-replicate) (omega arith) in
+    let next = c.in_ok-write_next.ensures in
+    let frame = c.write_frame.ensures in
+    (
+      passes_send s.line_up.mode (is_loaded s.sender.progress) s.station _ layout.mode c.in_ok-station.station parts.0 loaded station (eq-eqb _ _ two),
+      record {
+        mode = layout.mode;
+        station = c.in_ok-station.station;
+        has_mode = parts.0;
+        has_station = station;
+        is_frame = rw (next.2, size, parts.1, parts.2) at frame;
+        fits = rw (size, block) at next.1;
+      },
+      ap (with_sender (exciter_state s)) next.3,
+    )
