@@ -1,5 +1,5 @@
 // Check values of the CRCs that catalogues print, those of the ASCII digits 1 to 9; the longest message of many pieces;
-// and a line-up of seven bytes with its clone.
+// and a line-up of seven bytes, with its clone and the layout of that.
 use bits::{crc8, crc16, spread};
 use lineup::asked::Asked;
 use lineup::line_up::StaircaseLineUp;
@@ -39,6 +39,7 @@ fn a_clone_holds_the_same(rt: HostRuntime) -> Result<(), Fail> {
     plan[..14].fill(3);
     plan[14..65].fill(4);
     let mut line_up = StaircaseLineUp::new(rt.alloc())?;
+    assert!(rt; line_up.layout().is_none());
     let done = line_up.fill(Asked {
         occupancy: 0,
         tis: 1,
@@ -54,6 +55,9 @@ fn a_clone_holds_the_same(rt: HostRuntime) -> Result<(), Fail> {
     let clone = line_up.clone()?;
     assert_eq!(rt; clone.block_length(), 7);
     assert!(rt; clone.plan() == line_up.plan());
+    let layout = clone.layout().ok_or("no layout")?;
+    assert_eq!(rt; layout.block_length(), 7);
+    assert_eq!(rt; layout.data_cells(), 56);
     let code = clone.code().clone()?;
     assert!(rt; code.checks_hold(&[false; 112]));
     Ok(())

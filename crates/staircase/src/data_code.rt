@@ -6,14 +6,13 @@ use crate::exponents::Exponents;
 use codes::words::SendingCode;
 use std::alloc::{AllocError, Global};
 
-// A code of the data, which can be filled again.
-// It is for the code alone to say what its words are by its numbers.
+// A code of the data, which can be filled again. What its words are is for the code to say.
 pub trait DataCode: SendingCode<Symbol = bool> + Clone {
     ghost shape: { Self → Shape };
 
     ghost exponents: { Self → List ℤ };
 
-    // Some code, that is to be filled.
+    // Some code, which is to be filled.
     fn new(heap: Global) -> Result<Self, AllocError>;
 
     // Makes this the code with the exponents given.

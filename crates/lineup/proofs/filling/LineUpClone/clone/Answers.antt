@@ -1,4 +1,4 @@
-use Rattle.std.proofs.Common.{◌≡◌, vec_items, refl, rules}
+use Rattle.std.proofs.Common.{◌≡◌, ◌+◌, ◌*◌, vec_items, refl, sym, ap, ◌∙◌, rules}
 use Rattle.lineup.specs.Judging.{held}
 use Rattle.lineup.specs.LineUps.{Pass8}
 use Rattle.lineup.proofs.Views.{held_same, holds_same}
@@ -29,9 +29,12 @@ returns g c =
       cases = record {
         mode = refl;
         plan = written;
+        clone = same;
         shape = shape;
         exponents = exponents;
         view = held_same self.mode written shape exponents;
+        message_length = law.message_sized code ∙ ap (λ s. s.columns * s.lift) shape ∙ sym (law.message_sized self.code);
+        word_length = law.word_sized code ∙ ap (λ s. (s.columns + s.rows) * s.lift) shape ∙ sym (law.word_sized self.code);
         word = law.same_words self.code code same;
       };
     }
