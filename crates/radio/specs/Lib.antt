@@ -2,4 +2,5 @@ pub mod ExciterCalls
 pub mod Lines
 pub mod NextBlock
 pub mod ReceiverCalls
-pub mod States
+pub mod ReceiverStates
+pub mod ExciterStates

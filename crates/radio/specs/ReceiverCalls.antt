@@ -5,13 +5,16 @@ use Rattle.refusals.specs.declared.Refusal.TheVariants.{EmptyLineUp, SliceLength
 use Rattle.cells.specs.declared.cell.Cell.{Cell}
 use Rattle.frames.specs.Faults.{refusal_of}
 use Rattle.frames.specs.Laying.{cells_in}
-use Rattle.frames.specs.Reading.{FrameAnswer, HasFrame, Mending, ReadsSent, Told}
+use Rattle.frames.specs.Reading.{FrameAnswer, HasFrame, Mending, ReadsSent, Told, mending}
 use Rattle.frames.specs.declared.fault.FrameFault.{FrameFault}
+use Rattle.lineup.specs.declared.kind.CellKind.{CellKind}
 use Rattle.lineup.specs.declared.mode.Mode.{Mode}
+use Rattle.cells.specs.declared.cell.Order.{Order}
+use Rattle.frames.specs.Frames.{Sending}
 use Rattle.messages.specs.CollectorCalls.{CollectorState, Fetching, Taking, new_collector}
 use Rattle.messages.specs.declared.content.Placing.{Placing}
 use Rattle.modes.specs.declared.station.Station.{Station}
-use Rattle.radio.specs.Lines.{Line, paired}
+use Rattle.radio.specs.Lines.{Line, line, paired}
 use Rattle.radio.specs.declared.answer.Taken.{Taken}
 
 -- the line-up, how its streams are read, and the message that is collected
@@ -23,6 +26,11 @@ pub record ReceiverState : Type 0 where
 -- empty
 abbrev pub new_receiver : Line → Mending → ReceiverState
 new_receiver l ear = record { line = l; ear = ear; collector = new_collector (l.block - 6) }
+
+-- that, on a line-up and a channel, whatever the reach of the data code's copy is
+abbrev pub NewReceiver : Sending → Option Mode → List CellKind → (block mis_reach tis_reach : ℕ) → (mis_decided tis_decided data_decided : Order → Cell → List Bool) → ReceiverState → Type 0
+NewReceiver air mode plan block a b x y z s =
+    (data_reach : ℕ) × (s ≡ new_receiver (line air mode plan block) (mending a b data_reach x y z))
 
 abbrev pub with_collector : ReceiverState → CollectorState → ReceiverState
 with_collector s x = record { line = s.line; ear = s.ear; collector = x }

@@ -48,7 +48,7 @@ impl<
     ghost use Rattle.frames.specs.Frames.{sending};
     ghost use Rattle.radio.specs.ExciterCalls.{Clears, Loads, Sends, Stations, new_exciter};
     ghost use Rattle.radio.specs.Lines.{line};
-    ghost use Rattle.radio.specs.States.{exciter_state};
+    ghost use Rattle.radio.specs.ExciterStates.{exciter_state};
 
     // A new exciter on a copy of a line-up has no station and no message.
     pub(crate) fn new(

@@ -4,5 +4,6 @@
 mod answer;
 mod exciter;
 mod next;
+mod receiver;
 
 pub use answer::Taken;

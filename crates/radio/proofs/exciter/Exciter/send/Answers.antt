@@ -6,7 +6,7 @@ use Rattle.messages.specs.SenderCalls.{advanced, is_loaded, next_packet}
 use Rattle.messages.specs.Views.{sender_state}
 use Rattle.packets.specs.Packets.{Fits}
 use Rattle.radio.specs.ExciterCalls.{with_sender}
-use Rattle.radio.specs.States.{exciter_state}
+use Rattle.radio.specs.ExciterStates.{exciter_state}
 use Rattle.radio.proofs.Calls.{passes_send}
 use Rattle.radio.proofs.exciter.Exciter.send.Goals as goal
 
@@ -24,8 +24,7 @@ returns g c =
     let most = layout.roomy.most in
     let size : length (take c.block_length.result (replicate {A = ℕ} 1440 0)) ≡ block_length_of layout.mode (k layout.code.now) = rw (length-take, length-replicate) (omega arith) in
     let next = c.in_ok-write_next.ensures in
-    let frame = c.write_frame.ensures in
-    (
+    let frame = c.write_frame.ensures in (
       passes_send s.line_up.mode (is_loaded s.sender.progress) s.station _ layout.mode c.in_ok-station.station parts.0 loaded station (eq-eqb _ _ two),
       record {
         mode = layout.mode;

@@ -1,4 +1,4 @@
--- What the contracts say of the two structs' private fields.
+-- What the contracts say of the exciter's private fields.
 use Rattle.std.specs.Prelude.{ℕ, vec_items}
 use Rattle.frames.specs.Frames.{sending}
 use Rattle.frames.specs.Reading.{Mending}

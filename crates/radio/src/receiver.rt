@@ -1,0 +1,92 @@
+// The receiver: a message, collected piece by piece from the frames that are taken.
+ghost use Rattle.std.specs.Prelude.{◌≡◌, ◌-◌, IfOk, length};
+ghost use Rattle.frames.specs.Frames.{sending};
+ghost use Rattle.frames.specs.Reading.{mending};
+ghost use Rattle.lineup.specs.Views.{block_length, view_of};
+ghost use Rattle.messages.specs.Pieces.{piece_length_of};
+ghost use Rattle.messages.specs.Views.{collector_state};
+
+use crate::answer::Taken;
+use crate::next::AROUND_DATA;
+use cells::Constellation;
+use codes::lengths::FixedCode;
+use codes::words::MendingCode;
+use frames::{Channel, ReceivedCells};
+use lineup::line_up::LineUp;
+use messages::Collector;
+use packets::MOST_BLOCK;
+use refusals::Refusal;
+use staircase::data_code::DataCode;
+use std::alloc::{AllocError, Global};
+
+#[derive(Drop)]
+pub(crate) struct Receiver<
+    'a,
+    M: FixedCode<2, 4> + MendingCode<Symbol = u8>,
+    T: FixedCode<9, 29> + MendingCode<Symbol = u8>,
+    D: DataCode + MendingCode<Symbol = bool>,
+    A: Constellation,
+    B: Constellation,
+    C: Constellation,
+> {
+    channel: &'a Channel<M, T, A, B, C>,
+    line_up: LineUp<D>,
+    collector: Collector,
+    ghost cut: { (collector_state collector).piece_length ≡ piece_length_of (block_length (view_of line_up) - 6) },
+}
+
+impl<
+    'a,
+    M: FixedCode<2, 4> + MendingCode<Symbol = u8>,
+    T: FixedCode<9, 29> + MendingCode<Symbol = u8>,
+    D: DataCode + MendingCode<Symbol = bool>,
+    A: Constellation,
+    B: Constellation,
+    C: Constellation,
+> Receiver<'a, M, T, D, A, B, C> {
+    ghost use Rattle.radio.specs.ReceiverCalls.{Fetches, NewReceiver, Takes};
+    ghost use Rattle.radio.specs.ReceiverStates.{receiver_state};
+
+    // A new receiver on a copy of a line-up is empty.
+    pub(crate) fn new(
+        heap: Global,
+        channel: &'a Channel<M, T, A, B, C>,
+        line_up: &LineUp<D>,
+    ) -> Result<Self, AllocError>
+        ensures { IfOk result (λ r. NewReceiver (sending (M.SendingCode.word channel.now.mis) (T.SendingCode.word channel.now.tis) (D.SendingCode.word line_up.now.code) (A.Constellation.point channel.now.mis_points) (B.Constellation.point channel.now.tis_points) (C.Constellation.point channel.now.data_points) (D.SendingCode.message_length line_up.now.code) (D.SendingCode.word_length line_up.now.code)) line_up.now.mode line_up.now.plan.items (block_length (view_of line_up.now)) (M.MendingCode.reach channel.now.mis) (T.MendingCode.reach channel.now.tis) (A.Constellation.decided channel.now.mis_points) (B.Constellation.decided channel.now.tis_points) (C.Constellation.decided channel.now.data_points) (receiver_state r)) }
+    {
+        let line_up = line_up.clone()?;
+        let piece_length = line_up.block_length().saturating_sub(AROUND_DATA);
+        let collector = Collector::new(heap, piece_length)?;
+        Ok(Receiver {
+            channel,
+            line_up,
+            collector,
+        })
+    }
+
+    // Takes a frame, two numbers a cell.
+    pub(crate) fn take(&mut self, numbers: &[i16]) -> Result<Taken, Refusal>
+        ensures { Takes (receiver_state self.old) (receiver_state self.new) numbers.now result }
+    {
+        let layout = self.line_up.layout().ok_or(Refusal::EmptyLineUp)?;
+        let received = ReceivedCells::new(layout.plan(), numbers).ok_or(Refusal::SliceLength)?;
+        let mut store = [0; MOST_BLOCK];
+        let block = &mut store[..layout.block_length()];
+        let heard = self.channel.read_frame(&layout, received, block)?;
+        let placing = self.collector.take(heard.packet)?;
+        Ok(Taken {
+            placing,
+            mode: heard.mode,
+            station: heard.station,
+            mended: heard.mended,
+        })
+    }
+
+    // Copies the message to the front of `bytes` and answers its length.
+    pub(crate) fn fetch(&self, bytes: &mut [u8]) -> Result<usize, Refusal>
+        ensures { Fetches (receiver_state self.now) bytes.old bytes.new result }
+    {
+        self.collector.fetch(bytes)
+    }
+}
