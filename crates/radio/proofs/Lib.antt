@@ -1,0 +1,2 @@
+pub mod RunsLift
+pub mod Promised
