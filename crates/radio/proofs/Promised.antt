@@ -1,15 +1,20 @@
 -- The promise on runs of frames, by the promise on runs of packets.
-use Rattle.std.proofs.Common.{◌≡◌, ℕ, ◌-◌, List, [], ℤ, Some, Ok, Err, Result, sym, refl, ap, ◌∙◌, subst}
+use Rattle.std.proofs.Common.{◌≡◌, ℕ, ◌-◌, Bool, List, [], ℤ, Some, Ok, Err, Option, Result, sym, refl, ap, ◌∙◌, subst}
 use Rattle.refusals.specs.declared.Refusal.{Refusal}
+use Rattle.cells.specs.declared.cell.Cell.{Cell}
+use Rattle.cells.specs.declared.cell.Order.{Order}
+use Rattle.frames.specs.Frames.{sending}
 use Rattle.frames.specs.Laying.{cells_in}
 use Rattle.frames.specs.Reading.{Mending}
+use Rattle.lineup.specs.declared.kind.CellKind.{CellKind}
+use Rattle.lineup.specs.declared.mode.Mode.{Mode}
 use Rattle.messages.specs.Histories.{Took}
 use Rattle.messages.specs.Pieces.{piece_length_of}
 use Rattle.messages.specs.Promise.{Promise, Told}
 use Rattle.messages.specs.declared.content.Placing.{Placing}
 use Rattle.messages.proofs.Runs.{pair_promised}
 use Rattle.radio.specs.ExciterCalls.{ExciterState, new_exciter}
-use Rattle.radio.specs.Lines.{Line}
+use Rattle.radio.specs.Lines.{Line, line}
 use Rattle.radio.specs.Promise.{Answered, RunsPromise, SendsFrames, TakesFrames}
 use Rattle.radio.specs.ReceiverCalls.{ReceiverState, new_receiver, taken_as}
 use Rattle.radio.specs.Runs.{Aired, Near, RadioHistory, RadioRun}
@@ -46,6 +51,12 @@ module _ (d : ℕ) (e₀ : ExciterState) (r₀ : ReceiverState) (l : Line) (ear 
   pub promised : RunsPromise d e₀ r₀
   promised e r h run =
       (sends e r h run, takes e r h run, (promise e.sender r.collector h.packets (lifted e₀ r₀ l ear blocks begins run).0).2)
+
+-- lines are the same where their data codes and their line-ups are alike, on one channel
+pub same_line : {mis tis : List ℕ → List ℕ} {p q r : Order → List Bool → Cell} {w v : List Bool → List Bool} {k i n j : ℕ} {m o : Option Mode} {plan kinds : List CellKind} {block size : ℕ}
+    → v ≡ w → i ≡ k → j ≡ n → o ≡ m → kinds ≡ plan → size ≡ block
+    → line (sending mis tis v p q r i j) o kinds size ≡ line (sending mis tis w p q r k n) m plan block
+same_line a b c d e f = cc
 
 -- the promise on a new exciter and a new receiver on one line-up
 pub runs_promised : (l k : Line) (ear : Mending) (e₀ : ExciterState) (r₀ : ReceiverState) → e₀ ≡ new_exciter l → r₀ ≡ new_receiver k ear → k ≡ l → Blocks l → RunsPromise (piece_length_of (l.block - 6)) e₀ r₀

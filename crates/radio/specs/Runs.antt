@@ -71,7 +71,7 @@ pub data RadioRun (e₀ : ExciterState) (r₀ : ReceiverState) : ExciterState �
   station : {e : ExciterState} {r : ReceiverState} {h : RadioHistory} → RadioRun e₀ r₀ e r h → (n hour minute duration : ℕ) (t : ExciterState) (answer : Result (Unit {0}) Refusal) → Stations e t n hour minute duration answer → RadioRun e₀ r₀ t r h
   load : {e : ExciterState} {r : ReceiverState} {h : RadioHistory} → RadioRun e₀ r₀ e r h → (message : List ℕ) (t : ExciterState) → Loads e t message (Ok tt) → RadioRun e₀ r₀ t r (with_load h message)
   load_refused : {e : ExciterState} {r : ReceiverState} {h : RadioHistory} → RadioRun e₀ r₀ e r h → (message : List ℕ) (t : ExciterState) (x : Refusal) → Loads e t message (Err x) → RadioRun e₀ r₀ t r h
-  -- the slice is the frame of the packet that comes next
+  -- the new frame brings the packet that comes next, with the exciter's station, and its cells are those of the slice
   send : {e : ExciterState} {r : ReceiverState} {h : RadioHistory} → RadioRun e₀ r₀ e r h → (numbers numbers_after : List ℤ) (t : ExciterState) (step : Sends e t numbers numbers_after (Ok tt)) → RadioRun e₀ r₀ t r (with_send h (next_packet e.sender) step.1.station (cells_in numbers_after))
   send_refused : {e : ExciterState} {r : ReceiverState} {h : RadioHistory} → RadioRun e₀ r₀ e r h → (numbers numbers_after : List ℤ) (t : ExciterState) (x : Refusal) → Sends e t numbers numbers_after (Err x) → RadioRun e₀ r₀ t r h
   clear : {e : ExciterState} {r : ReceiverState} {h : RadioHistory} → RadioRun e₀ r₀ e r h → (t : ExciterState) (answer : Result (Unit {0}) Refusal) → Clears e t answer → RadioRun e₀ r₀ t r h
