@@ -1,3 +1,5 @@
 pub mod Blocks
 pub mod Calls
 pub mod Takings
+pub mod RunsLift
+pub mod Promised

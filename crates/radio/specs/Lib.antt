@@ -4,3 +4,5 @@ pub mod NextBlock
 pub mod ReceiverCalls
 pub mod ReceiverStates
 pub mod ExciterStates
+pub mod Promise
+pub mod Runs
