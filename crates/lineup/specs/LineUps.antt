@@ -110,6 +110,7 @@ Passes4 a = streams_fit a.tis a.plan ≡ true
 abbrev pub Passes5 : Asked → Type 0
 Passes5 a = code_shaped a.rate a.lift a.rows a.columns (length a.exponents) ≡ true
 
+-- 6: each exponent is in range
 abbrev pub Passes6 : Asked → Type 0
 Passes6 a = ExponentsKnown a.lift a.exponents
 
