@@ -17,7 +17,7 @@ use staircase::data_code::DataCode;
 use std::alloc::{AllocError, Global};
 
 #[derive(Drop)]
-pub(crate) struct Exciter<
+pub struct Exciter<
     'a,
     M: FixedCode<2, 4>,
     T: FixedCode<9, 29>,
@@ -51,7 +51,7 @@ impl<
     ghost use Rattle.radio.specs.ExciterStates.{exciter_state};
 
     // A new exciter on a copy of a line-up has no station and no message.
-    pub(crate) fn new(
+    pub fn new(
         heap: Global,
         channel: &'a Channel<M, T, A, B, C>,
         line_up: &LineUp<D>,
@@ -70,7 +70,7 @@ impl<
     }
 
     // The station record that frames carry from now on.
-    pub(crate) fn station(
+    pub fn station(
         &mut self,
         station: u32,
         hour: u32,
@@ -87,7 +87,7 @@ impl<
     }
 
     // Copies a message, which is sent from its first piece on.
-    pub(crate) fn load(&mut self, message: &[u8]) -> Result<(), Refusal>
+    pub fn load(&mut self, message: &[u8]) -> Result<(), Refusal>
         ensures { Loads (exciter_state self.old) (exciter_state self.new) message.now result }
     {
         if self.line_up.mode().is_none() {
@@ -97,7 +97,7 @@ impl<
     }
 
     // Writes the next piece's frame, two numbers a cell.
-    pub(crate) fn send(&mut self, numbers: &mut [i16]) -> Result<(), Refusal>
+    pub fn send(&mut self, numbers: &mut [i16]) -> Result<(), Refusal>
         ensures { Sends (exciter_state self.old) (exciter_state self.new) numbers.old numbers.new result }
     {
         let layout = self.line_up.layout().ok_or(Refusal::EmptyLineUp)?;
@@ -116,7 +116,7 @@ impl<
     }
 
     // Drops the message.
-    pub(crate) fn clear(&mut self) -> Result<(), Refusal>
+    pub fn clear(&mut self) -> Result<(), Refusal>
         ensures { Clears (exciter_state self.old) (exciter_state self.new) result }
     {
         self.sender.clear()

@@ -5,5 +5,9 @@ mod answer;
 mod exciter;
 mod next;
 mod receiver;
+mod together;
 
 pub use answer::Taken;
+pub use exciter::Exciter;
+pub use receiver::Receiver;
+pub use together::pair;

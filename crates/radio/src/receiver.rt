@@ -20,7 +20,7 @@ use staircase::data_code::DataCode;
 use std::alloc::{AllocError, Global};
 
 #[derive(Drop)]
-pub(crate) struct Receiver<
+pub struct Receiver<
     'a,
     M: FixedCode<2, 4> + MendingCode<Symbol = u8>,
     T: FixedCode<9, 29> + MendingCode<Symbol = u8>,
@@ -48,7 +48,7 @@ impl<
     ghost use Rattle.radio.specs.ReceiverStates.{receiver_state};
 
     // A new receiver on a copy of a line-up is empty.
-    pub(crate) fn new(
+    pub fn new(
         heap: Global,
         channel: &'a Channel<M, T, A, B, C>,
         line_up: &LineUp<D>,
@@ -66,7 +66,7 @@ impl<
     }
 
     // Takes a frame, two numbers a cell.
-    pub(crate) fn take(&mut self, numbers: &[i16]) -> Result<Taken, Refusal>
+    pub fn take(&mut self, numbers: &[i16]) -> Result<Taken, Refusal>
         ensures { Takes (receiver_state self.old) (receiver_state self.new) numbers.now result }
     {
         let layout = self.line_up.layout().ok_or(Refusal::EmptyLineUp)?;
@@ -84,7 +84,7 @@ impl<
     }
 
     // Copies the message to the front of `bytes` and answers its length.
-    pub(crate) fn fetch(&self, bytes: &mut [u8]) -> Result<usize, Refusal>
+    pub fn fetch(&self, bytes: &mut [u8]) -> Result<usize, Refusal>
         ensures { Fetches (receiver_state self.now) bytes.old bytes.new result }
     {
         self.collector.fetch(bytes)

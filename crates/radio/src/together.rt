@@ -1,0 +1,49 @@
+// An exciter and a receiver on one line-up and one channel.
+ghost use Rattle.std.specs.Prelude.{◌≡◌, ◌-◌, IfOk};
+ghost use Rattle.frames.specs.Apart.{FramesApart};
+ghost use Rattle.frames.specs.Frames.{sending};
+ghost use Rattle.lineup.specs.Views.{block_length, view_of};
+ghost use Rattle.messages.specs.Pieces.{piece_length_of};
+ghost use Rattle.radio.specs.ExciterCalls.{new_exciter};
+ghost use Rattle.radio.specs.ExciterStates.{exciter_state};
+ghost use Rattle.radio.specs.Lines.{line};
+ghost use Rattle.radio.specs.Promise.{RunsPromise};
+ghost use Rattle.radio.specs.ReceiverStates.{receiver_state};
+
+use crate::exciter::Exciter;
+use crate::receiver::Receiver;
+use cells::Constellation;
+use codes::lengths::FixedCode;
+use codes::words::MendingCode;
+use frames::Channel;
+use lineup::line_up::LineUp;
+use staircase::data_code::DataCode;
+use std::alloc::{AllocError, Global};
+
+// The promise is over the frames of all exciters with the codes and constellations, and over every history of calls on the two.
+pub fn pair<
+    'a,
+    M: FixedCode<2, 4> + MendingCode<Symbol = u8>,
+    T: FixedCode<9, 29> + MendingCode<Symbol = u8>,
+    D: DataCode + MendingCode<Symbol = bool>,
+    A: Constellation,
+    B: Constellation,
+    C: Constellation,
+>(
+    heap: Global,
+    channel: &'a Channel<M, T, A, B, C>,
+    line_up: &LineUp<D>,
+) -> Result<
+    (
+        Exciter<'a, M, T, D, A, B, C>,
+        Receiver<'a, M, T, D, A, B, C>,
+    ),
+    AllocError,
+>
+    ensures frames { IfOk result (λ p. FramesApart (exciter_state p.0).line.air (receiver_state p.1).ear (M.SendingCode.distance channel.now.mis) (T.SendingCode.distance channel.now.tis) (D.SendingCode.distance line_up.now.code)) }
+    ensures runs { IfOk result (λ p. RunsPromise (piece_length_of (block_length (view_of line_up.now) - 6)) (exciter_state p.0) (receiver_state p.1)) }
+{
+    let exciter = Exciter::new(heap, channel, line_up)?;
+    let receiver = Receiver::new(heap, channel, line_up)?;
+    Ok((exciter, receiver))
+}
