@@ -1,3 +1,4 @@
 pub mod Numbers
+pub mod Settings
 pub mod Texts
 pub mod Troubles

@@ -1,8 +1,7 @@
-// The program's words, numbers, bytes and cells, read and printed, and its commands on packets.
+// What a script's words say, and what is printed of bits, numbers and cells.
 #![tactic(auto)]
 
 pub mod numbers;
-pub mod packet;
 pub mod settings;
 pub mod text;
 pub mod trouble;

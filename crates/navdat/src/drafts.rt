@@ -1,5 +1,5 @@
 // `plan RUN…`, `exponents RUN…` and `fill O T D R L M K`: drafts, and the line-up that is filled from them.
-use desk::numbers::{natural, number};
+use desk::numbers::{natural, signed, unsigned};
 use desk::trouble::{Stop, Trouble};
 use desk::words::exactly;
 use lineup::asked::Asked;
@@ -66,7 +66,7 @@ pub fn run_plan(rt: &impl Print, desk: &mut Desk, words: &[&str]) -> Result<(), 
 }
 
 pub fn run_exponents(rt: &impl Print, desk: &mut Desk, words: &[&str]) -> Result<(), Stop> {
-    desk.exponents = draft(desk.heap, words, number)?;
+    desk.exponents = draft(desk.heap, words, signed)?;
     println!(rt; "exponents: {}", desk.exponents.len())?;
     Ok(())
 }
@@ -83,8 +83,8 @@ fn print_filled(rt: &impl Print, answer: Result<(), Refusal>) -> io::Result<()> 
 
 pub fn run_fill(rt: &impl Print, desk: &mut Desk, words: &[&str]) -> Result<(), Stop> {
     let [o, t, d, r, l, m, k] = exactly::<_, 7>(words)?;
-    let (occupancy, tis, data, rate) = (number(o)?, number(t)?, number(d)?, number(r)?);
-    let (lift, rows, columns) = (number(l)?, number(m)?, number(k)?);
+    let (occupancy, tis, data, rate) = (unsigned(o)?, unsigned(t)?, unsigned(d)?, unsigned(r)?);
+    let (lift, rows, columns) = (unsigned(l)?, unsigned(m)?, unsigned(k)?);
     let answer = desk.line_up.fill(Asked {
         occupancy,
         tis,

@@ -4,8 +4,10 @@
 mod answer;
 mod drafts;
 mod mis;
+mod packet;
 mod parts;
 mod script;
+mod steps;
 mod tis;
 
 use drafts::Desk;

@@ -1,6 +1,7 @@
 // `mis O T D [I=V …]`: the MIS of three mode numbers, step by step, and what reading its cells gives.
-use crate::answer::{print_answer, steps_of};
+use crate::answer::print_answer;
 use crate::parts::part;
+use crate::steps::steps_of;
 use cells::Qam;
 use desk::settings::set_numbers;
 use desk::trouble::{Stop, Trouble};

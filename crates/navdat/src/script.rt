@@ -1,8 +1,8 @@
 // A line of the script: its words, its command, and what is wrong with it.
 use crate::drafts::{Desk, run_exponents, run_fill, run_plan};
 use crate::mis::run_mis;
+use crate::packet::{run_block, run_packet};
 use crate::tis::run_tis;
-use desk::packet::{run_block, run_packet};
 use desk::trouble::{Stop, Trouble};
 use std::alloc::{AllocError, Global};
 use std::io;

@@ -1,8 +1,9 @@
 // `tis O D R S H M U Q [I=V …]`: the TIS of a mode and a station, step by step, and what reading its cells gives.
-use crate::answer::{print_answer, steps_of};
+use crate::answer::print_answer;
 use crate::parts::part;
+use crate::steps::steps_of;
 use cells::Qam;
-use desk::numbers::number;
+use desk::numbers::unsigned;
 use desk::settings::set_numbers;
 use desk::trouble::{Stop, Trouble};
 use modem::{FrameFault, read_tis, write_tis};
@@ -31,7 +32,7 @@ impl fmt::Display for StatedTis {
 }
 
 fn station(s: &str, h: &str, m: &str, u: &str) -> Result<Station, Trouble> {
-    Station::new(number(s)?, number(h)?, number(m)?, number(u)?).ok_or(Trouble::OutOfRange)
+    Station::new(unsigned(s)?, unsigned(h)?, unsigned(m)?, unsigned(u)?).ok_or(Trouble::OutOfRange)
 }
 
 // Runs the command's words, and prints nothing where one of them is wrong.

@@ -1,7 +1,7 @@
 // `packet T L I C HEX` and `block HEX`: a packet's block, and the packet of a block.
-use crate::numbers::natural;
-use crate::trouble::{Stop, Trouble};
-use crate::words::exactly;
+use desk::numbers::natural;
+use desk::trouble::{Stop, Trouble};
+use desk::words::exactly;
 use packets::{Header, LEAST_BLOCK, MOST_BLOCK, Packet, read_packet, write_packet};
 use refusals::Refusal;
 use std::alloc::Global;
