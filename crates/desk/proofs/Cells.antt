@@ -1,12 +1,12 @@
 -- The numbers of cells, two a cell, when one is set.
-use Rattle.std.proofs.Common.{◌≡◌, ℕ, ◌+◌, ◌*◌, ◌<◌, ◌≤◌, ◌/◌, ◌%◌, List, [], ◌∷◌, length, get_or, set, zero, suc, Result, Ok, Err, MatchResult, refl, ap, ◌∙◌, arith, ℤ}
+use Rattle.std.proofs.Common.{◌≡◌, ℕ, ◌+◌, ◌*◌, ◌<◌, ◌≤◌, ◌/◌, ◌%◌, List, [], ◌∷◌, length, get_or, set, zero, suc, Result, Ok, Err, refl, ap, ◌∙◌, arith, ℤ}
 use Rattle.std.specs.List.{flat_map}
 use Rattle.std.proofs.lemmas.Bool.{lt-ltb, le-ltb}
 use Rattle.cells.specs.declared.cell.Cell.{Cell}
 use Rattle.desk.specs.declared.settings.Setting.{Setting}
 use Rattle.desk.specs.declared.trouble.Trouble.{Trouble}
 use Rattle.desk.specs.declared.trouble.Trouble.TheVariants.{NotThere}
-use Rattle.desk.specs.Settings.{with_set}
+use Rattle.desk.specs.Changes.{Does, with_number}
 use Rattle.desk.specs.Texts.{numbers_of}
 
 pub length-numbers : (cells : List Cell) → length (flat_map numbers_of cells) ≡ 2 * length cells
@@ -25,8 +25,7 @@ set_imaginary (x ∷ xs) (suc i) v d = let e : 2 * suc i + 1 ≡ suc (suc (2 * i
 
 -- What setting a number does to cells, by their numbers.
 abbrev pub Sets : Setting → List Cell → List Cell → Result (Unit {0}) Trouble → Type 0
-Sets s before after r =
-    MatchResult (with_set (Ok s) (flat_map numbers_of before)) (λ next. (r ≡ Ok tt) × (flat_map numbers_of after ≡ next)) (λ why. (r ≡ Err why) × (after ≡ before))
+Sets s before after r = let numbers = flat_map numbers_of before in Does (with_number s.place s.value numbers) numbers (flat_map numbers_of after) r
 
 Sets-there : (s : Setting) (before after : List Cell) → s.place / 2 < length before → flat_map numbers_of after ≡ set (flat_map numbers_of before) s.place s.value → Sets s before after (Ok tt)
 Sets-there s before after there e = rw (lt-ltb s.place (length (flat_map numbers_of before)) (omega (arith, length-numbers before))) (refl, e)

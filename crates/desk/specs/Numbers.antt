@@ -33,3 +33,7 @@ up_to most (Err why) = Err why
 -- the number from 0 to `most` that a word writes
 abbrev pub natural_of : ℕ → List ℕ → Result ℕ Trouble
 natural_of most word = up_to most (unsigned_of word)
+
+-- a count, a size or a place
+abbrev pub count_of : List ℕ → Result ℕ Trouble
+count_of word = natural_of 1000000 word

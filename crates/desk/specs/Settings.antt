@@ -1,10 +1,11 @@
 -- Words `I=V`, which set numbers of cells.
-use Rattle.std.specs.Prelude.{ℕ, ◌+◌, Bool, cond, List, [], ◌∷◌, length, take, drop, ℤ, Option, Some, None, Result, Ok, Err, nat_lt, ◌==◌, slice_set}
+use Rattle.std.specs.Prelude.{ℕ, ◌+◌, Bool, List, [], ◌∷◌, take, drop, ℤ, Option, Some, None, Result, Ok, Err, ◌==◌}
 use Rattle.std.specs.List.{position}
 use Rattle.desk.specs.declared.settings.Setting.{Setting}
 use Rattle.desk.specs.declared.trouble.Trouble.{Trouble}
-use Rattle.desk.specs.declared.trouble.Trouble.TheVariants.{NoNumber, NotThere}
-use Rattle.desk.specs.Numbers.{natural_of, signed_of}
+use Rattle.desk.specs.declared.trouble.Trouble.TheVariants.{NoNumber}
+use Rattle.desk.specs.Changes.{with_number}
+use Rattle.desk.specs.Numbers.{count_of, signed_of}
 
 -- a byte is `=`
 abbrev pub is_equals : ℕ → Bool
@@ -16,17 +17,17 @@ setting_by (Ok place) (Ok value) = Ok (record { place = place; value = value })
 setting_by (Ok place) (Err why) = Err why
 setting_by (Err why) _ = Err why
 
--- what a word asks for, by where its first `=` stands: a place from 0 to 1000000 before it, and a value behind it
+-- what a word asks for, by where its first `=` stands: a place before it, and a value behind it
 abbrev pub setting_at : List ℕ → Option ℕ → Result Setting Trouble
 setting_at word None = Err NoNumber
-setting_at word (Some i) = setting_by (natural_of 1000000 (take i word)) (signed_of (drop (i + 1) word))
+setting_at word (Some i) = setting_by (count_of (take i word)) (signed_of (drop (i + 1) word))
 
 abbrev pub setting_of : List ℕ → Result Setting Trouble
 setting_of word = setting_at word (position is_equals word)
 
--- numbers with the one of that place set, where there is one
+-- numbers with the one set that is asked for
 abbrev pub with_set : Result Setting Trouble → List ℤ → Result (List ℤ) Trouble
-with_set (Ok s) numbers = cond (nat_lt s.place (length numbers)) (Ok (slice_set numbers s.place s.value)) (Err NotThere)
+with_set (Ok s) numbers = with_number s.place s.value numbers
 with_set (Err why) numbers = Err why
 
 -- What words are answered, and the numbers afterwards.

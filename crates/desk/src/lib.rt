@@ -1,8 +1,11 @@
 // What a script's words say, and what is printed of bits, numbers and cells.
 #![tactic(auto)]
 
+pub mod frames;
+pub mod loads;
 pub mod numbers;
 pub mod settings;
+pub mod shown;
 pub mod text;
 pub mod trouble;
 pub mod words;

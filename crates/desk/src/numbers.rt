@@ -1,11 +1,14 @@
 // The numbers of a script: decimal, with `-` in front of a negative one.
 ghost use Rattle.std.specs.Prelude.{◌≡◌, ◌≢◌, slice_index};
-ghost use Rattle.desk.specs.Numbers.{Parses, natural_of, signed_of, unsigned_of};
+ghost use Rattle.desk.specs.Numbers.{Parses, count_of, natural_of, signed_of, unsigned_of};
 ghost use Rattle.desk.specs.declared.trouble.Trouble.TheVariants.{NoNumber};
 
 use crate::trouble::Trouble;
 use std::num::ParseIntError;
 use std::str::FromStr;
+
+// the largest count, size or place
+const MOST_COUNT: u32 = 1_000_000;
 
 // A number of some type, with no `+` in front.
 fn number<T: FromStr<Err = ParseIntError>>(word: &str) -> Result<T, Trouble>
@@ -41,4 +44,11 @@ pub fn natural(word: &str, most: u32) -> Result<u32, Trouble>
         return Err(Trouble::OutOfRange);
     }
     Ok(n)
+}
+
+// A count, a size or a place.
+pub fn count(word: &str) -> Result<usize, Trouble>
+    ensures { result ≡ count_of word.now }
+{
+    Ok(natural(word, MOST_COUNT)? as usize)
 }

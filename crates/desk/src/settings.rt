@@ -1,10 +1,11 @@
 // Words `I=V`, which change numbers of cells before they are read.
-ghost use Rattle.std.specs.Prelude.{◌≡◌, map};
+ghost use Rattle.std.specs.Prelude.{◌≡◌};
 ghost use Rattle.std.specs.List.{flat_map};
 ghost use Rattle.desk.specs.Settings.{set_all};
 ghost use Rattle.desk.specs.Texts.{numbers_of};
+ghost use Rattle.desk.specs.Words.{texts};
 
-use crate::numbers::{natural, signed};
+use crate::numbers::{count, signed};
 use crate::trouble::Trouble;
 use cells::Cell;
 use std::str::FromStr;
@@ -27,21 +28,20 @@ impl FromStr for Setting {
     fn from_str(word: &str) -> Result<Self, Trouble> {
         let (place, value) = word.split_once('=').ok_or(Trouble::NoNumber)?;
         Ok(Setting {
-            place: natural(place, 1_000_000)? as usize,
+            place: count(place)?,
             value: signed(value)?,
         })
     }
 }
 
 impl Setting {
-    ghost use Rattle.std.specs.Prelude.{◌≡◌, Ok, Err, MatchResult};
     ghost use Rattle.std.specs.List.{flat_map};
-    ghost use Rattle.desk.specs.Settings.{with_set};
+    ghost use Rattle.desk.specs.Changes.{Does, with_number};
     ghost use Rattle.desk.specs.Texts.{numbers_of};
 
     // Sets the number, where there is one of that place.
     fn apply(self, cells: &mut [Cell]) -> Result<(), Trouble>
-        ensures { MatchResult (with_set (Ok self) (flat_map numbers_of cells.old)) (λ after. (result ≡ Ok tt) × (flat_map numbers_of cells.new ≡ after)) (λ why. (result ≡ Err why) × (cells.new ≡ cells.old)) }
+        ensures { let numbers = flat_map numbers_of cells.old in Does (with_number self.place self.value numbers) numbers (flat_map numbers_of cells.new) result }
     {
         let index = self.place / 2;
         if index >= cells.len() {
@@ -58,8 +58,8 @@ impl Setting {
 
 // Sets numbers of the cells, a word for each, up to the first word that is wrong.
 pub fn set_numbers(words: &[&str], cells: &mut [Cell]) -> Result<(), Trouble>
-    ensures answer { result ≡ (set_all (map (λ word. word.now) words.now) (flat_map numbers_of cells.old)).answer }
-    ensures cells { flat_map numbers_of cells.new ≡ (set_all (map (λ word. word.now) words.now) (flat_map numbers_of cells.old)).numbers }
+    ensures answer { result ≡ (set_all (texts words.now) (flat_map numbers_of cells.old)).answer }
+    ensures cells { flat_map numbers_of cells.new ≡ (set_all (texts words.now) (flat_map numbers_of cells.old)).numbers }
 {
     for word in words {
         let setting: Setting = word.parse()?;

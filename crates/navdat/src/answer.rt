@@ -1,10 +1,10 @@
 // What reading the cells of a stream gives, as it is printed.
+use desk::shown::Refused;
 use modem::{FrameFault, Reading};
-use refusals::Refusal;
 use std::fmt::Display;
 use std::io;
 
-// Prints what a stream was read as, by what `shown` makes of it, or the refusal's number.
+// Prints what a stream was read as, by what `shown` makes of it, or the refusal.
 pub fn print_answer<T, D: Display + Drop, F: FnOnce(T) -> D>(
     rt: &impl Print,
     name: &str,
@@ -15,6 +15,6 @@ pub fn print_answer<T, D: Display + Drop, F: FnOnce(T) -> D>(
 {
     match answer {
         Ok(got) => println!(rt; "{name}: reads {} mended {}", shown(got.stated), got.mended),
-        Err(fault) => println!(rt; "{name}: refused {}", u8::from(Refusal::from(fault))),
+        Err(fault) => println!(rt; "{name}: {}", Refused(fault.into())),
     }
 }

@@ -3,6 +3,8 @@
 
 mod answer;
 mod drafts;
+mod frames;
+mod held;
 mod mis;
 mod packet;
 mod parts;
@@ -10,16 +12,16 @@ mod script;
 mod steps;
 mod tis;
 
-use drafts::Desk;
+use held::Held;
 use script::run_line;
 use std::io;
 use std::io::{BufRead, BufReader};
 
 fn main(rt: HostRuntime) -> io::Result<()> {
     let input = BufReader::new(rt.alloc(), rt.stdin())?;
-    let mut desk = Desk::new(rt.alloc())?;
+    let mut held = Held::new(rt.alloc())?;
     for line in input.split(rt.alloc(), b'\n') {
-        run_line(&rt, &mut desk, &line?)?;
+        run_line(&rt, &mut held, &line?)?;
     }
     Ok(())
 }

@@ -5,31 +5,12 @@ use crate::steps::steps_of;
 use cells::Qam;
 use desk::numbers::unsigned;
 use desk::settings::set_numbers;
+use desk::shown::TisNumbers;
 use desk::trouble::{Stop, Trouble};
 use modem::{FrameFault, read_tis, write_tis};
 use modes::{Station, Tis, data_coding};
 use reed_solomon::streams::tis as tis_code;
 use std::alloc::Global;
-use std::fmt;
-
-// The coding and the station of a TIS, as they are printed.
-#[derive(Clone, Copy)]
-struct StatedTis(Tis);
-
-impl fmt::Display for StatedTis {
-    fn fmt<W: fmt::Write>(&self, f: &mut fmt::Formatter<W>) -> fmt::Result {
-        let station = self.0.station;
-        write!(
-            f,
-            "coding {} station {} {} {} {}",
-            self.0.coding,
-            station.station(),
-            station.hour(),
-            station.minute(),
-            station.duration()
-        )
-    }
-}
 
 fn station(s: &str, h: &str, m: &str, u: &str) -> Result<Station, Trouble> {
     Station::new(unsigned(s)?, unsigned(h)?, unsigned(m)?, unsigned(u)?).ok_or(Trouble::OutOfRange)
@@ -50,6 +31,6 @@ pub fn run_tis(rt: &impl Print, heap: Global, words: &[&str]) -> Result<(), Stop
     set_numbers(settings, &mut cells[..count])?;
     steps_of(&trace, count).print(rt, heap, "tis")?;
     let answer = read_tis(&tis_code(), &Qam, constellation, &cells).map_err(FrameFault::Tis);
-    print_answer(rt, "tis", answer, StatedTis)?;
+    print_answer(rt, "tis", answer, TisNumbers)?;
     Ok(())
 }
