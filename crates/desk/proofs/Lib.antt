@@ -1,1 +1,4 @@
 mod Arrays
+mod Cells
+mod Lists
+mod Parsing

@@ -1,3 +1,9 @@
+pub mod Changes
+pub mod Frames
+pub mod Loads
 pub mod Numbers
+pub mod Settings
+pub mod Shown
 pub mod Texts
 pub mod Troubles
+pub mod Words

@@ -1,9 +1,11 @@
-// The program's words, numbers, bytes and cells, read and printed, and its commands on packets.
+// What a script's words say, and what is printed of bits, numbers and cells.
 #![tactic(auto)]
 
+pub mod frames;
+pub mod loads;
 pub mod numbers;
-pub mod packet;
 pub mod settings;
+pub mod shown;
 pub mod text;
 pub mod trouble;
 pub mod words;

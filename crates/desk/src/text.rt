@@ -7,7 +7,6 @@ ghost use Rattle.desk.specs.Texts.{bit_digit, numbers_of};
 use cells::Cell;
 use std::alloc::{AllocError, Global};
 use std::fmt::Display;
-use std::io;
 
 // Bits as one word, in sending order.
 pub fn bits_text(heap: Global, bits: &[bool]) -> Result<String, AllocError>
@@ -42,26 +41,4 @@ pub fn cell_numbers(heap: Global, cells: &[Cell]) -> Result<Vec<i16>, AllocError
     ensures { IfOk result (λ numbers. numbers.items ≡ flat_map numbers_of cells.now) }
 {
     cells.iter().flat_map(numbers_of).collect(heap)
-}
-
-// A stream at every step of sending.
-#[derive(Clone, Copy, Debug)]
-pub struct Steps<'a> {
-    pub record: &'a [bool],
-    pub scrambled: &'a [bool],
-    pub message: &'a [u8],
-    pub word: &'a [u8],
-    pub cells: &'a [Cell],
-}
-
-impl Steps<'_> {
-    // Prints each step, a line with the stream's name.
-    pub fn print(&self, rt: &impl Print, heap: Global, name: &str) -> io::Result<()> {
-        println!(rt; "{name}: record {}", bits_text(heap, self.record)?)?;
-        println!(rt; "{name}: scrambled {}", bits_text(heap, self.scrambled)?)?;
-        println!(rt; "{name}: message{}", numbers_text(heap, self.message)?)?;
-        println!(rt; "{name}: word{}", numbers_text(heap, self.word)?)?;
-        let numbers = cell_numbers(heap, self.cells)?;
-        println!(rt; "{name}: cells{}", numbers_text(heap, &numbers)?)
-    }
 }

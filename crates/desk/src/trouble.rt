@@ -31,6 +31,8 @@ pub enum Trouble {
     TooMany,
     #[error("there is no number of that place")]
     NotThere,
+    #[error("there is no frame of that number")]
+    NoFrame,
     #[error("the packet does not fit its block")]
     NoRoom,
     #[error("there is no memory")]

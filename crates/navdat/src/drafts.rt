@@ -1,40 +1,16 @@
 // `plan RUN…`, `exponents RUN…` and `fill O T D R L M K`: drafts, and the line-up that is filled from them.
-use desk::numbers::{natural, number};
+use crate::held::Held;
+use desk::numbers::{count, natural, signed, unsigned};
+use desk::shown::Refused;
 use desk::trouble::{Stop, Trouble};
 use desk::words::exactly;
 use lineup::asked::Asked;
-use lineup::line_up::StaircaseLineUp;
-use refusals::Refusal;
-use std::alloc::{AllocError, Global};
-use std::io;
-
-// The most times that a value is repeated.
-const MOST_TIMES: u32 = 1_000_000;
-
-// What the commands hold from line to line.
-#[derive(Drop)]
-pub struct Desk {
-    pub heap: Global,
-    line_up: StaircaseLineUp,
-    plan: Vec<u8>,
-    exponents: Vec<i16>,
-}
-
-impl Desk {
-    pub fn new(heap: Global) -> Result<Self, AllocError> {
-        Ok(Desk {
-            heap,
-            line_up: StaircaseLineUp::new(heap)?,
-            plan: Vec::new(heap),
-            exponents: Vec::new(heap),
-        })
-    }
-}
+use std::alloc::Global;
 
 // The value of a run and how many times it comes: `V`, or `VxN`.
 fn run_of(word: &str) -> Result<(&str, usize), Trouble> {
     match word.split_once('x') {
-        Some((value, times)) => Ok((value, natural(times, MOST_TIMES)? as usize)),
+        Some((value, times)) => Ok((value, count(times)?)),
         None => Ok((word, 1)),
     }
 }
@@ -59,43 +35,36 @@ fn draft<T: Copy, F: Fn(&str) -> Result<T, Trouble>>(
     Ok(values)
 }
 
-pub fn run_plan(rt: &impl Print, desk: &mut Desk, words: &[&str]) -> Result<(), Stop> {
-    desk.plan = draft(desk.heap, words, |value| Ok(natural(value, 255)? as u8))?;
-    println!(rt; "plan: {} bytes", desk.plan.len())?;
+pub fn run_plan(rt: &impl Print, held: &mut Held, words: &[&str]) -> Result<(), Stop> {
+    held.plan = draft(held.heap, words, |value| Ok(natural(value, 255)? as u8))?;
+    println!(rt; "plan: {} bytes", held.plan.len())?;
     Ok(())
 }
 
-pub fn run_exponents(rt: &impl Print, desk: &mut Desk, words: &[&str]) -> Result<(), Stop> {
-    desk.exponents = draft(desk.heap, words, number)?;
-    println!(rt; "exponents: {}", desk.exponents.len())?;
+pub fn run_exponents(rt: &impl Print, held: &mut Held, words: &[&str]) -> Result<(), Stop> {
+    held.exponents = draft(held.heap, words, signed)?;
+    println!(rt; "exponents: {}", held.exponents.len())?;
     Ok(())
 }
 
-fn print_filled(rt: &impl Print, answer: Result<(), Refusal>) -> io::Result<()> {
-    match answer {
-        Ok(()) => println!(rt; "fill: done"),
-        Err(refusal @ (Refusal::PlanByte(place) | Refusal::ExponentOutOfRange(place))) => {
-            println!(rt; "fill: refused {} place {place}", u8::from(refusal))
-        }
-        Err(refusal) => println!(rt; "fill: refused {}", u8::from(refusal)),
-    }
-}
-
-pub fn run_fill(rt: &impl Print, desk: &mut Desk, words: &[&str]) -> Result<(), Stop> {
+pub fn run_fill(rt: &impl Print, held: &mut Held, words: &[&str]) -> Result<(), Stop> {
     let [o, t, d, r, l, m, k] = exactly::<_, 7>(words)?;
-    let (occupancy, tis, data, rate) = (number(o)?, number(t)?, number(d)?, number(r)?);
-    let (lift, rows, columns) = (number(l)?, number(m)?, number(k)?);
-    let answer = desk.line_up.fill(Asked {
+    let (occupancy, tis, data, rate) = (unsigned(o)?, unsigned(t)?, unsigned(d)?, unsigned(r)?);
+    let (lift, rows, columns) = (unsigned(l)?, unsigned(m)?, unsigned(k)?);
+    let answer = held.line_up.fill(Asked {
         occupancy,
         tis,
         data,
         rate,
-        plan: &desk.plan,
+        plan: &held.plan,
         lift,
         rows,
         columns,
-        exponents: &desk.exponents,
+        exponents: &held.exponents,
     });
-    print_filled(rt, answer)?;
+    match answer {
+        Ok(()) => println!(rt; "fill: done")?,
+        Err(refusal) => println!(rt; "fill: {}", Refused(refusal))?,
+    }
     Ok(())
 }

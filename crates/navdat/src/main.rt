@@ -3,21 +3,29 @@
 
 mod answer;
 mod drafts;
+mod exciting;
+mod frames;
+mod held;
 mod mis;
+mod packet;
 mod parts;
+mod receiving;
 mod script;
+mod steps;
 mod tis;
 
-use drafts::Desk;
+use held::Held;
+use radio::navdat_channel;
 use script::run_line;
 use std::io;
 use std::io::{BufRead, BufReader};
 
 fn main(rt: HostRuntime) -> io::Result<()> {
     let input = BufReader::new(rt.alloc(), rt.stdin())?;
-    let mut desk = Desk::new(rt.alloc())?;
+    let channel = navdat_channel();
+    let mut held = Held::new(rt.alloc(), &channel)?;
     for line in input.split(rt.alloc(), b'\n') {
-        run_line(&rt, &mut desk, &line?)?;
+        run_line(&rt, &mut held, &line?)?;
     }
     Ok(())
 }

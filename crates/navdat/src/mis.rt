@@ -1,35 +1,15 @@
 // `mis O T D [I=V …]`: the MIS of three mode numbers, step by step, and what reading its cells gives.
-use crate::answer::{print_answer, steps_of};
+use crate::answer::print_answer;
 use crate::parts::part;
+use crate::steps::steps_of;
 use cells::Qam;
 use desk::settings::set_numbers;
+use desk::shown::ModeNumbers;
 use desk::trouble::{Stop, Trouble};
 use modem::{FrameFault, read_mis, write_mis};
 use modes::Mis;
 use reed_solomon::streams::mis as mis_code;
 use std::alloc::Global;
-use std::fmt;
-
-// The mode numbers of a MIS, as they are printed.
-#[derive(Clone, Copy)]
-struct ModeNumbers(Mis);
-
-impl fmt::Display for ModeNumbers {
-    fn fmt<W: fmt::Write>(&self, f: &mut fmt::Formatter<W>) -> fmt::Result {
-        let Mis {
-            occupancy,
-            tis,
-            data,
-        } = self.0;
-        write!(
-            f,
-            "{} {} {}",
-            u8::from(occupancy),
-            u8::from(tis),
-            u8::from(data)
-        )
-    }
-}
 
 fn mode(o: &str, t: &str, d: &str) -> Result<Mis, Trouble> {
     Ok(Mis {

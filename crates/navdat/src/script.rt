@@ -1,8 +1,12 @@
 // A line of the script: its words, its command, and what is wrong with it.
-use crate::drafts::{Desk, run_exponents, run_fill, run_plan};
+use crate::drafts::{run_exponents, run_fill, run_plan};
+use crate::exciting::{run_clear, run_exciter, run_load, run_send, run_station};
+use crate::frames::{run_copy, run_resize, run_set, run_show};
+use crate::held::Held;
 use crate::mis::run_mis;
+use crate::packet::{run_block, run_packet};
+use crate::receiving::{run_fetch, run_receiver, run_take};
 use crate::tis::run_tis;
-use desk::packet::{run_block, run_packet};
 use desk::trouble::{Stop, Trouble};
 use std::alloc::{AllocError, Global};
 use std::io;
@@ -15,33 +19,45 @@ fn words(heap: Global, line: &str) -> Result<Vec<&str>, AllocError> {
 }
 
 // Runs the words of a line.
-fn run_words(rt: &impl Print, desk: &mut Desk, words: &[&str]) -> Result<(), Stop> {
+fn run_words(rt: &impl Print, held: &mut Held, words: &[&str]) -> Result<(), Stop> {
     match words {
         [] => Ok(()),
-        ["plan", rest @ ..] => run_plan(rt, desk, rest),
-        ["exponents", rest @ ..] => run_exponents(rt, desk, rest),
-        ["fill", rest @ ..] => run_fill(rt, desk, rest),
-        ["mis", rest @ ..] => run_mis(rt, desk.heap, rest),
-        ["tis", rest @ ..] => run_tis(rt, desk.heap, rest),
-        ["packet", rest @ ..] => run_packet(rt, desk.heap, rest),
-        ["block", rest @ ..] => run_block(rt, desk.heap, rest),
+        ["plan", rest @ ..] => run_plan(rt, held, rest),
+        ["exponents", rest @ ..] => run_exponents(rt, held, rest),
+        ["fill", rest @ ..] => run_fill(rt, held, rest),
+        ["exciter", rest @ ..] => run_exciter(rt, held, rest),
+        ["receiver", rest @ ..] => run_receiver(rt, held, rest),
+        ["station", rest @ ..] => run_station(rt, held, rest),
+        ["load", rest @ ..] => run_load(rt, held, rest),
+        ["send", rest @ ..] => run_send(rt, held, rest),
+        ["clear", rest @ ..] => run_clear(rt, held, rest),
+        ["copy", rest @ ..] => run_copy(rt, &mut held.frames, rest),
+        ["set", rest @ ..] => run_set(rt, &mut held.frames, rest),
+        ["resize", rest @ ..] => run_resize(rt, &mut held.frames, rest),
+        ["show", rest @ ..] => run_show(rt, held.heap, &held.frames, rest),
+        ["take", rest @ ..] => run_take(rt, held, rest),
+        ["fetch", rest @ ..] => run_fetch(rt, held, rest),
+        ["mis", rest @ ..] => run_mis(rt, held.heap, rest),
+        ["tis", rest @ ..] => run_tis(rt, held.heap, rest),
+        ["packet", rest @ ..] => run_packet(rt, held.heap, rest),
+        ["block", rest @ ..] => run_block(rt, held.heap, rest),
         _ => Err(Trouble::NoCommand.into()),
     }
 }
 
 // Runs the text of a line; a `#` in front makes it a remark.
-fn run_text(rt: &impl Print, desk: &mut Desk, line: &[u8]) -> Result<(), Stop> {
+fn run_text(rt: &impl Print, held: &mut Held, line: &[u8]) -> Result<(), Stop> {
     let text = std::str::from_utf8(line).map_err(Trouble::from)?;
     if text.starts_with('#') {
         return Ok(());
     }
-    let all = words(desk.heap, text.strip_suffix('\r').unwrap_or(text))?;
-    run_words(rt, desk, &all)
+    let all = words(held.heap, text.strip_suffix('\r').unwrap_or(text))?;
+    run_words(rt, held, &all)
 }
 
 // Runs one line, and prints what it does or what is wrong with it.
-pub fn run_line(rt: &impl Print, desk: &mut Desk, line: &[u8]) -> io::Result<()> {
-    match run_text(rt, desk, line) {
+pub fn run_line(rt: &impl Print, held: &mut Held, line: &[u8]) -> io::Result<()> {
+    match run_text(rt, held, line) {
         Err(Stop::Line(why)) => println!(rt; "error: {why}"),
         Err(Stop::Output(error)) => Err(error),
         Ok(()) => Ok(()),

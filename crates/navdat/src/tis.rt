@@ -1,37 +1,19 @@
 // `tis O D R S H M U Q [I=V …]`: the TIS of a mode and a station, step by step, and what reading its cells gives.
-use crate::answer::{print_answer, steps_of};
+use crate::answer::print_answer;
 use crate::parts::part;
+use crate::steps::steps_of;
 use cells::Qam;
-use desk::numbers::number;
+use desk::numbers::unsigned;
 use desk::settings::set_numbers;
+use desk::shown::TisNumbers;
 use desk::trouble::{Stop, Trouble};
 use modem::{FrameFault, read_tis, write_tis};
 use modes::{Station, Tis, data_coding};
 use reed_solomon::streams::tis as tis_code;
 use std::alloc::Global;
-use std::fmt;
-
-// The coding and the station of a TIS, as they are printed.
-#[derive(Clone, Copy)]
-struct StatedTis(Tis);
-
-impl fmt::Display for StatedTis {
-    fn fmt<W: fmt::Write>(&self, f: &mut fmt::Formatter<W>) -> fmt::Result {
-        let station = self.0.station;
-        write!(
-            f,
-            "coding {} station {} {} {} {}",
-            self.0.coding,
-            station.station(),
-            station.hour(),
-            station.minute(),
-            station.duration()
-        )
-    }
-}
 
 fn station(s: &str, h: &str, m: &str, u: &str) -> Result<Station, Trouble> {
-    Station::new(number(s)?, number(h)?, number(m)?, number(u)?).ok_or(Trouble::OutOfRange)
+    Station::new(unsigned(s)?, unsigned(h)?, unsigned(m)?, unsigned(u)?).ok_or(Trouble::OutOfRange)
 }
 
 // Runs the command's words, and prints nothing where one of them is wrong.
@@ -49,6 +31,6 @@ pub fn run_tis(rt: &impl Print, heap: Global, words: &[&str]) -> Result<(), Stop
     set_numbers(settings, &mut cells[..count])?;
     steps_of(&trace, count).print(rt, heap, "tis")?;
     let answer = read_tis(&tis_code(), &Qam, constellation, &cells).map_err(FrameFault::Tis);
-    print_answer(rt, "tis", answer, StatedTis)?;
+    print_answer(rt, "tis", answer, TisNumbers)?;
     Ok(())
 }

@@ -1,7 +1,8 @@
 // `packet T L I C HEX` and `block HEX`: a packet's block, and the packet of a block.
-use crate::numbers::natural;
-use crate::trouble::{Stop, Trouble};
-use crate::words::exactly;
+use desk::numbers::natural;
+use desk::shown::Refused;
+use desk::trouble::{Stop, Trouble};
+use desk::words::exactly;
 use packets::{Header, LEAST_BLOCK, MOST_BLOCK, Packet, read_packet, write_packet};
 use refusals::Refusal;
 use std::alloc::Global;
@@ -66,7 +67,7 @@ pub fn run_block(rt: &impl Print, heap: Global, words: &[&str]) -> Result<(), St
     let block = block_bytes(heap, words)?;
     match read_packet(&block) {
         Ok(packet) => print_content(rt, heap, packet)?,
-        Err(_) => println!(rt; "block: refused {}", u8::from(Refusal::BadPacket))?,
+        Err(_) => println!(rt; "block: {}", Refused(Refusal::BadPacket))?,
     }
     Ok(())
 }

@@ -1,0 +1,70 @@
+// `exciter`, `station S H M D`, `load hex HEX`, `load ramp N`, `send`, `send N` and `clear`: the exciter's calls.
+use crate::held::Held;
+use desk::loads::loaded_bytes;
+use desk::numbers::{count, unsigned};
+use desk::shown::Refused;
+use desk::trouble::Stop;
+use desk::words::exactly;
+use radio::Exciter;
+use refusals::Refusal;
+use std::io;
+
+// Prints that a call was done, or why it was refused.
+fn print_done(rt: &impl Print, name: &str, answer: Result<(), Refusal>) -> io::Result<()> {
+    match answer {
+        Ok(()) => println!(rt; "{name}: done"),
+        Err(refusal) => println!(rt; "{name}: {}", Refused(refusal)),
+    }
+}
+
+pub fn run_exciter(rt: &impl Print, held: &mut Held, words: &[&str]) -> Result<(), Stop> {
+    let [] = exactly::<_, 0>(words)?;
+    held.exciter = Exciter::new(held.heap, held.channel, &held.line_up)?;
+    held.numbers = held.line_up.plan().len().saturating_mul(2);
+    println!(rt; "exciter: new")?;
+    Ok(())
+}
+
+pub fn run_station(rt: &impl Print, held: &mut Held, words: &[&str]) -> Result<(), Stop> {
+    let [station, hour, minute, duration] = exactly::<_, 4>(words)?;
+    let (station, hour) = (unsigned(station)?, unsigned(hour)?);
+    let (minute, duration) = (unsigned(minute)?, unsigned(duration)?);
+    print_done(
+        rt,
+        "station",
+        held.exciter.station(station, hour, minute, duration),
+    )?;
+    Ok(())
+}
+
+pub fn run_load(rt: &impl Print, held: &mut Held, words: &[&str]) -> Result<(), Stop> {
+    let bytes = loaded_bytes(held.heap, words)?;
+    print_done(rt, "load", held.exciter.load(&bytes))?;
+    Ok(())
+}
+
+// The sent frame joins the list; a refused send leaves the list as it was.
+pub fn run_send(rt: &impl Print, held: &mut Held, words: &[&str]) -> Result<(), Stop> {
+    let size = match words {
+        [] => held.numbers,
+        _ => {
+            let [size] = exactly::<_, 1>(words)?;
+            count(size)?
+        }
+    };
+    let mut numbers = vec![in held.heap; 0i16; size]?;
+    match held.exciter.send(&mut numbers) {
+        Ok(()) => {
+            let frame = held.frames.push(numbers)?;
+            println!(rt; "send: frame {frame}")?;
+        }
+        Err(refusal) => println!(rt; "send: {}", Refused(refusal))?,
+    }
+    Ok(())
+}
+
+pub fn run_clear(rt: &impl Print, held: &mut Held, words: &[&str]) -> Result<(), Stop> {
+    let [] = exactly::<_, 0>(words)?;
+    print_done(rt, "clear", held.exciter.clear())?;
+    Ok(())
+}

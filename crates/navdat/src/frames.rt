@@ -1,0 +1,42 @@
+// `copy F`, `set F I V`, `resize F N` and `show F`: the list of frames, numbered from 0.
+use desk::frames::Frames;
+use desk::numbers::{count, signed};
+use desk::text::numbers_text;
+use desk::trouble::Stop;
+use desk::words::exactly;
+use std::alloc::Global;
+
+pub fn run_copy(rt: &impl Print, frames: &mut Frames, words: &[&str]) -> Result<(), Stop> {
+    let [frame] = exactly::<_, 1>(words)?;
+    let copy = frames.copy(count(frame)?)?;
+    println!(rt; "copy: frame {copy}")?;
+    Ok(())
+}
+
+pub fn run_set(rt: &impl Print, frames: &mut Frames, words: &[&str]) -> Result<(), Stop> {
+    let [frame, place, value] = exactly::<_, 3>(words)?;
+    let frame = count(frame)?;
+    frames.set(frame, count(place)?, signed(value)?)?;
+    println!(rt; "set: frame {frame}")?;
+    Ok(())
+}
+
+pub fn run_resize(rt: &impl Print, frames: &mut Frames, words: &[&str]) -> Result<(), Stop> {
+    let [frame, size] = exactly::<_, 2>(words)?;
+    let frame = count(frame)?;
+    frames.resize(frame, count(size)?)?;
+    println!(rt; "resize: frame {frame}")?;
+    Ok(())
+}
+
+pub fn run_show(
+    rt: &impl Print,
+    heap: Global,
+    frames: &Frames,
+    words: &[&str],
+) -> Result<(), Stop> {
+    let [frame] = exactly::<_, 1>(words)?;
+    let numbers = frames.get(count(frame)?)?;
+    println!(rt; "show:{}", numbers_text(heap, numbers)?)?;
+    Ok(())
+}

@@ -1,0 +1,49 @@
+// `receiver`, `take F` and `fetch N`: the receiver's calls.
+use crate::held::Held;
+use desk::numbers::count;
+use desk::shown::{ModeNumbers, Refused, StationNumbers};
+use desk::trouble::Stop;
+use desk::words::exactly;
+use radio::{Receiver, Taken};
+use std::io;
+
+pub fn run_receiver(rt: &impl Print, held: &mut Held, words: &[&str]) -> Result<(), Stop> {
+    let [] = exactly::<_, 0>(words)?;
+    held.receiver = Receiver::new(held.heap, held.channel, &held.line_up)?;
+    println!(rt; "receiver: new")?;
+    Ok(())
+}
+
+// What became of the piece, the mode, the station and the mended symbols.
+fn print_taken(rt: &impl Print, taken: Taken) -> io::Result<()> {
+    println!(rt;
+        "take: {} mode {} {} station {} mended {} {}",
+        taken.placing.name(),
+        ModeNumbers(taken.mode.mis()),
+        u8::from(taken.mode.rate),
+        StationNumbers(taken.station),
+        taken.mended.mis,
+        taken.mended.tis
+    )
+}
+
+pub fn run_take(rt: &impl Print, held: &mut Held, words: &[&str]) -> Result<(), Stop> {
+    let [frame] = exactly::<_, 1>(words)?;
+    let numbers = held.frames.get(count(frame)?)?;
+    match held.receiver.take(numbers) {
+        Ok(taken) => print_taken(rt, taken)?,
+        Err(refusal) => println!(rt; "take: {}", Refused(refusal))?,
+    }
+    Ok(())
+}
+
+// The bytes are 255 where the message is not copied to.
+pub fn run_fetch(rt: &impl Print, held: &mut Held, words: &[&str]) -> Result<(), Stop> {
+    let [size] = exactly::<_, 1>(words)?;
+    let mut bytes = vec![in held.heap; 255u8; count(size)?]?;
+    match held.receiver.fetch(&mut bytes) {
+        Ok(length) => println!(rt; "fetch: {length} bytes {}", hex::encode(held.heap, bytes)?)?,
+        Err(refusal) => println!(rt; "fetch: {}", Refused(refusal))?,
+    }
+    Ok(())
+}
