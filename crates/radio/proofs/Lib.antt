@@ -1,2 +1,3 @@
 pub mod RunsLift
 pub mod Promised
+pub mod Reached
