@@ -1,3 +1,4 @@
 pub mod RunsLift
 pub mod Promised
 pub mod Reached
+pub mod RunsShown

@@ -1,5 +1,5 @@
 -- Cells within reach of a sent frame have an answer: what that frame states. Assumes nothing.
-use Rattle.std.proofs.Common.{◌≡◌, ℕ, ◌+◌, ◌*◌, ◌<◌, ◌≤◌, Bool, true, false, List, length, take, ltb, Some, Ok, Result, sym, refl, ap, ◌∙◌, subst, arith}
+use Rattle.std.proofs.Common.{◌≡◌, ℕ, ◌*◌, ◌<◌, ◌≤◌, Bool, false, List, length, take, Some, Ok, sym, refl, ap, ◌∙◌, subst, arith}
 use Rattle.std.proofs.lemmas.Bool.{le-ltb}
 use Rattle.codes.specs.Symbols.{Below128, bit_number, differing}
 use Rattle.codes.proofs.Mends.{one_within}
@@ -8,26 +8,24 @@ use Rattle.bits.specs.Scrambling.{scrambled}
 use Rattle.bits.proofs.Bits.{cut-below_128, length_cut}
 use Rattle.cells.specs.Cells.{cell_bits}
 use Rattle.cells.specs.declared.cell.Cell.{Cell}
-use Rattle.cells.specs.declared.cell.Order.TheVariants.{Four}
 use Rattle.lineup.specs.Layouts.{Roomy, block_length_of, kind_count, words_of}
-use Rattle.lineup.specs.Stated.{stated_mis, stated_tis}
+use Rattle.lineup.specs.Stated.{stated_tis}
 use Rattle.lineup.specs.declared.kind.CellKind.{CellKind}
 use Rattle.lineup.specs.declared.kind.CellKind.TheVariants.{Data}
 use Rattle.lineup.specs.declared.mode.Mode.{Mode}
 use Rattle.modem.specs.Carrying.{record_of}
-use Rattle.modem.specs.TisStream.{tis_message, tis_order}
+use Rattle.modem.specs.TisStream.{tis_message}
 use Rattle.modem.proofs.Carries.{record_back}
 use Rattle.modes.specs.declared.station.Station.{Station}
 use Rattle.modes.specs.declared.station.Tis.{Tis}
 use Rattle.packets.specs.Packets.{Content, Fits, block_of, packet_in, wrong_size}
 use Rattle.packets.proofs.Exact.{exact}
-use Rattle.streams.specs.Records.{with_check}
 use Rattle.streams.specs.Tis.{length-tis_fields, tis_fields, tis_record, tis_stated}
 use Rattle.streams.proofs.RecordLaws.{fields_front, length-with_check}
 use Rattle.streams.proofs.TisLaws.{tis_stated_back}
 use Rattle.frames.specs.Frames.{Sending, data_order, frame_of}
 use Rattle.frames.specs.Laying.{picked}
-use Rattle.frames.specs.Reading.{BlockWithin, FrameAnswer, Mending, ReadsSent, Told, WithinReach, data_stream, mis_symbols, tis_symbols, wrong_mis, wrong_tis}
+use Rattle.frames.specs.Reading.{FrameAnswer, Mending, ReadsSent, Told, WithinReach, data_stream, mis_symbols, tis_symbols, wrong_mis, wrong_tis}
 use Rattle.frames.specs.Words.{part}
 use Rattle.frames.proofs.BlockSent.{block_forth}
 use Rattle.frames.proofs.FrameAnswers.{block_octets, block_size, has_frame}
