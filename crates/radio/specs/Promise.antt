@@ -52,7 +52,7 @@ RunsPromise d e₀ r₀ =
     (e : ExciterState) (r : ReceiverState) (h : RadioHistory) → RadioRun e₀ r₀ e r h
     → SendsFrames d e₀.line h × TakesFrames d e₀.line r h × GivesBack r.collector h.packets
 
--- there is such a run: a message in two pieces, each sent and taken, that is reported complete
+-- there is such a run: a message in two pieces that is reported complete
 pub record RunsShown (d : ℕ) (e₀ : ExciterState) (r₀ : ReceiverState) : Type 0 where
   pub e : ExciterState
   pub r : ReceiverState
