@@ -3,3 +3,5 @@ pub mod Calls
 pub mod Takings
 pub mod RunsLift
 pub mod Promised
+pub mod Reached
+pub mod RunsShown

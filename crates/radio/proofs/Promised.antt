@@ -1,11 +1,14 @@
 -- The promise on runs of frames, by the promise on runs of packets.
-use Rattle.std.proofs.Common.{◌≡◌, ℕ, ◌-◌, Bool, List, [], ℤ, Some, Ok, Err, Option, Result, sym, refl, ap, ◌∙◌, subst}
+use Rattle.std.proofs.Common.{◌≡◌, ℕ, ◌-◌, ◌*◌, ◌/◌, Bool, List, [], ℤ, Some, Ok, Err, Option, Result, sym, refl, ap, ◌∙◌, subst}
 use Rattle.refusals.specs.declared.Refusal.{Refusal}
 use Rattle.cells.specs.declared.cell.Cell.{Cell}
 use Rattle.cells.specs.declared.cell.Order.{Order}
 use Rattle.frames.specs.Frames.{sending}
 use Rattle.frames.specs.Laying.{cells_in}
 use Rattle.frames.specs.Reading.{Mending}
+use Rattle.lineup.specs.Judging.{held}
+use Rattle.lineup.specs.Layouts.{block_length_of, words_of}
+use Rattle.lineup.specs.Views.{block_length}
 use Rattle.lineup.specs.declared.kind.CellKind.{CellKind}
 use Rattle.lineup.specs.declared.mode.Mode.{Mode}
 use Rattle.messages.specs.Histories.{Took}
@@ -13,6 +16,7 @@ use Rattle.messages.specs.Pieces.{piece_length_of}
 use Rattle.messages.specs.Promise.{Promise, Told}
 use Rattle.messages.specs.declared.content.Placing.{Placing}
 use Rattle.messages.proofs.Runs.{pair_promised}
+use Rattle.staircase.specs.declared.shape.Shape.{Shape}
 use Rattle.radio.specs.ExciterCalls.{ExciterState, new_exciter}
 use Rattle.radio.specs.Lines.{Line, line}
 use Rattle.radio.specs.Promise.{Answered, RunsPromise, SendsFrames, TakesFrames}
@@ -57,6 +61,12 @@ pub same_line : {mis tis : List ℕ → List ℕ} {p q r : Order → List Bool �
     → v ≡ w → i ≡ k → j ≡ n → o ≡ m → kinds ≡ plan → size ≡ block
     → line (sending mis tis v p q r i j) o kinds size ≡ line (sending mis tis w p q r k n) m plan block
 same_line a b c d e f = cc
+
+-- what a line-up holds has the block of its mode
+pub blocks_held : (mode : Option Mode) (plan : List CellKind) (shape : Shape) (exponents : List ℤ) (k : ℕ) → k ≡ shape.columns * shape.lift
+    → (m : Mode) → mode ≡ Some m → block_length_of m k ≡ block_length (held mode plan shape exponents)
+blocks_held mode plan shape exponents k long m e =
+    subst (λ o. block_length_of m k ≡ block_length (held o plan shape exponents)) (sym e) (ap (λ x. words_of m * x / 8) long)
 
 -- the promise on a new exciter and a new receiver on one line-up
 pub runs_promised : (l k : Line) (ear : Mending) (e₀ : ExciterState) (r₀ : ReceiverState) → e₀ ≡ new_exciter l → r₀ ≡ new_receiver k ear → k ≡ l → Blocks l → RunsPromise (piece_length_of (l.block - 6)) e₀ r₀

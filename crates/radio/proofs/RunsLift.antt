@@ -16,7 +16,7 @@ use Rattle.messages.specs.declared.content.NextPacket.{NextPacket}
 use Rattle.messages.specs.declared.content.Placing.{Placing}
 use Rattle.modes.specs.declared.station.Station.{Station}
 use Rattle.packets.specs.Packets.{Content, Fits, content_of}
-use Rattle.radio.specs.ExciterCalls.{ExciterState, NextFrame, first_of_load, first_of_send, new_exciter}
+use Rattle.radio.specs.ExciterCalls.{ExciterState, NextFrame, first_of_load, first_of_send}
 use Rattle.radio.specs.Lines.{Line, paired}
 use Rattle.radio.specs.Promise.{IsFrame}
 use Rattle.radio.specs.ReceiverCalls.{ReceiverState, TakesLine, TakesSlice, TakesRead, Takes, taken_as, with_collector}

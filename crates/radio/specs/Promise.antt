@@ -1,5 +1,5 @@
 -- The promise on runs of frames.
-use Rattle.std.specs.Prelude.{◌≡◌, ℕ, List, map, ℤ, Some, Ok, Result}
+use Rattle.std.specs.Prelude.{◌≡◌, ℕ, List, length, map, ℤ, Some, Ok, Result}
 use Rattle.refusals.specs.declared.Refusal.{Refusal}
 use Rattle.cells.specs.declared.cell.Cell.{Cell}
 use Rattle.frames.specs.Frames.{frame_of}
@@ -7,7 +7,9 @@ use Rattle.frames.specs.Laying.{cells_in}
 use Rattle.frames.specs.Reading.{wrong_mis, wrong_tis}
 use Rattle.lineup.specs.declared.mode.Mode.{Mode}
 use Rattle.messages.specs.Histories.{In, Took}
+use Rattle.messages.specs.Pieces.{piece_count}
 use Rattle.messages.specs.Promise.{GivesBack, SendsPieces, Told}
+use Rattle.messages.specs.declared.content.Placing.TheVariants.{Complete}
 use Rattle.radio.specs.ExciterCalls.{ExciterState}
 use Rattle.radio.specs.Lines.{Line}
 use Rattle.radio.specs.ReceiverCalls.{ReceiverState, Takes}
@@ -49,3 +51,14 @@ abbrev pub RunsPromise : ℕ → ExciterState → ReceiverState → Type 0
 RunsPromise d e₀ r₀ =
     (e : ExciterState) (r : ReceiverState) (h : RadioHistory) → RadioRun e₀ r₀ e r h
     → SendsFrames d e₀.line h × TakesFrames d e₀.line r h × GivesBack r.collector h.packets
+
+-- there is such a run: a message in two pieces that is reported complete
+pub record RunsShown (d : ℕ) (e₀ : ExciterState) (r₀ : ReceiverState) : Type 0 where
+  pub e : ExciterState
+  pub r : ReceiverState
+  pub h : RadioHistory
+  pub run : RadioRun e₀ r₀ e r h
+  pub t : Took
+  pub was_taken : In t h.packets.taken
+  pub two_pieces : piece_count d (length t.what.message) ≡ 2
+  pub is_complete : t.answer ≡ Ok Complete
