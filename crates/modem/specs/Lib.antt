@@ -1,5 +1,4 @@
 pub mod Carrying
-pub mod Faults
 pub mod MisStream
 pub mod Reading
 pub mod Stream

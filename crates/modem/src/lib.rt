@@ -8,7 +8,7 @@ mod stream;
 mod tis;
 
 pub use carrying::{Reading, carry, decide_word};
-pub use fault::{FrameFault, StreamFault};
+pub use fault::StreamFault;
 pub use mis::{MisTrace, read_mis, write_mis};
 pub use stream::Trace;
 pub use tis::{TisTrace, read_tis, write_tis};

@@ -1,6 +1,7 @@
 // What reading the cells of a stream gives, as it is printed.
 use desk::shown::Refused;
-use modem::{FrameFault, Reading};
+use frames::FrameFault;
+use modem::Reading;
 use std::fmt::Display;
 use std::io;
 

@@ -4,8 +4,8 @@
 mod answer;
 mod drafts;
 mod exciting;
-mod frames;
 mod held;
+mod listing;
 mod mis;
 mod packet;
 mod parts;

@@ -1,8 +1,8 @@
 // A line of the script: its words, its command, and what is wrong with it.
 use crate::drafts::{run_exponents, run_fill, run_plan};
 use crate::exciting::{run_clear, run_exciter, run_load, run_send, run_station};
-use crate::frames::{run_copy, run_resize, run_set, run_show};
 use crate::held::Held;
+use crate::listing::{run_copy, run_resize, run_set, run_show};
 use crate::mis::run_mis;
 use crate::packet::{run_block, run_packet};
 use crate::receiving::{run_fetch, run_receiver, run_take};
