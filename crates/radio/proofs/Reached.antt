@@ -31,7 +31,8 @@ use Rattle.frames.proofs.BlockSent.{block_forth}
 use Rattle.frames.proofs.FrameAnswers.{block_octets, block_size, has_frame}
 use Rattle.frames.proofs.OnPlans.{length_picked}
 use Rattle.frames.proofs.OnStreams.{length-decided, words_enough}
-use Rattle.frames.proofs.Sent.{Known, message_bits, mis_sent, mis_word_sent, part_sent, tis_sent, tis_word_sent}
+use Rattle.frames.proofs.FrameAnswers.{Known}
+use Rattle.frames.proofs.Sent.{message_bits, mis_word_sent, part_sent, tis_word_sent}
 use Rattle.frames.proofs.Within.{one_words, words_sent}
 use Rattle.radio.specs.Lines.{Line}
 use Rattle.radio.specs.ReceiverCalls.{Reads}
@@ -89,8 +90,8 @@ module _ (s : Sending) (m : Mending) (known : Known s m) (apart : Apart s m) (pl
   answers : (station : Station) (packet : Content) → Fits size packet → WithinReach m plan mode s.n (frame_of s plan mode station packet) cells → FrameAnswer s m plan mode cells (Ok (stating s m plan mode cells station packet))
   answers station packet fits near =
       let block = block_of size packet in
-      let mis = mis_sent s m known plan mode roomy station block ∙ mis_word_sent s m known plan mode roomy station block in
-      let tis = tis_sent s m known plan mode roomy station block ∙ tis_word_sent s m known plan mode roomy station block in
+      let mis = mis_word_sent s m plan mode station block known.mis roomy.mis in
+      let tis = tis_word_sent s m plan mode station block known.tis roomy.tis in
       let sized = block_size size packet fits in (
         refl,
         record {
@@ -106,15 +107,15 @@ module _ (s : Sending) (m : Mending) (known : Known s m) (apart : Apart s m) (pl
           near = near.tis;
         },
         fits,
-        words_sent s.data_word m.data_reach s.k s.n known.data_sized (words_of mode) (data_stream m plan mode cells) (scrambled 0 (spread 8 block))
-            (message_bits s m known plan mode roomy station block sized)
-            (λ i l. subst (λ (x : ℕ). x ≤ m.data_reach) (ap (λ w. differing bit_number w (part s.n i (data_stream m plan mode cells))) (part_sent s m known plan mode roomy station block sized i l)) (near.words i l)),
+        words_sent s.data_word m.data_reach s.k s.n known.«data».sized (words_of mode) (data_stream m plan mode cells) (scrambled 0 (spread 8 block))
+            (message_bits s m plan mode station block known.«data» roomy sized)
+            (λ i l. subst (λ (x : ℕ). x ≤ m.data_reach) (ap (λ w. differing bit_number w (part s.n i (data_stream m plan mode cells))) (part_sent s m plan mode station block known.«data» roomy sized i l)) (near.words i l)),
       )
 
   room : words_of mode * s.n ≤ length (data_stream m plan mode cells)
   room =
       let o = data_order mode.«data» in
-      let bits = length-decided (m.data_decided o) (cell_bits o) (known.data_bits o) (picked Data plan cells) in
+      let bits = length-decided (m.data_decided o) (cell_bits o) (known.«data».bits o) (picked Data plan cells) in
       let count = length_picked Data plan cells long in
       rw (bits, count) (words_enough mode.«data» s.n (kind_count Data plan) roomy.pairs roomy.«data»)
 
@@ -124,7 +125,7 @@ module _ (s : Sending) (m : Mending) (known : Known s m) (apart : Apart s m) (pl
     same_station : station ≡ other
     same_station =
         let message =
-        one_within (λ (x : ℕ). x) 9 29 apart.tis_distance m.tis_reach s.tis_word known.tis_sized apart.tis_distant apart.tis_unique (tis_symbols m plan mode cells)
+        one_within (λ (x : ℕ). x) 9 29 apart.tis_distance m.tis_reach s.tis_word known.tis.sized apart.tis_distant apart.tis_unique (tis_symbols m plan mode cells)
         (tis_message (stated_tis mode station)) (tis_message (stated_tis mode other)) _ _ (length_cut 7 29 _)
         (answers station packet fits near).2 (answers other another fits_also near_also).2 in
         ap (λ t. t.station) (one_tis (stated_tis mode station) (stated_tis mode other) message)
@@ -134,9 +135,9 @@ module _ (s : Sending) (m : Mending) (known : Known s m) (apart : Apart s m) (pl
         let first = block_of size packet in
         let second = block_of size another in
         let messages =
-        one_words s.data_word m.data_reach s.k s.n known.data_sized apart.data_distance apart.data_distant apart.data_unique (words_of mode) (data_stream m plan mode cells)
+        one_words s.data_word m.data_reach s.k s.n known.«data».sized apart.data_distance apart.data_distant apart.data_unique (words_of mode) (data_stream m plan mode cells)
         (scrambled 0 (spread 8 first)) (scrambled 0 (spread 8 second)) room
-        (message_bits s m known plan mode roomy station first (block_size size packet fits)) (message_bits s m known plan mode roomy other second (block_size size another fits_also))
+        (message_bits s m plan mode station first known.«data» roomy (block_size size packet fits)) (message_bits s m plan mode other second known.«data» roomy (block_size size another fits_also))
         (answers station packet fits near).4 (answers other another fits_also near_also).4 in
         one_packet size packet another fits fits_also
         (sym (block_forth size (scrambled 0 (spread 8 first)) first (block_size size packet fits) (block_octets size packet) refl)

@@ -13,7 +13,7 @@ use Rattle.frames.specs.Frames.{frame_of}
 use Rattle.frames.specs.Laying.{cells_in, laid, left, numbers_of}
 use Rattle.frames.specs.Reading.{Mending, WithinReach, mis_symbols, tis_symbols, data_stream}
 use Rattle.frames.specs.Words.{part}
-use Rattle.frames.proofs.Sent.{Known}
+use Rattle.frames.proofs.FrameAnswers.{Known}
 use Rattle.lineup.specs.Layouts.{Roomy, block_length_of}
 use Rattle.lineup.specs.declared.kind.CellKind.{CellKind}
 use Rattle.lineup.specs.declared.kind.CellKind.TheVariants.{Mis, Tis, Data}

@@ -1,13 +1,14 @@
 // An exciter and a receiver on one line-up and one channel.
-ghost use Rattle.std.specs.Prelude.{◌≡◌, ◌-◌, IfOk};
+ghost use Rattle.std.specs.Prelude.{◌≡◌, ◌-◌, IfOk, Some};
 ghost use Rattle.frames.specs.Apart.{FramesApart};
 ghost use Rattle.frames.specs.Frames.{sending};
 ghost use Rattle.lineup.specs.Views.{block_length, view_of};
+ghost use Rattle.lineup.specs.declared.mode.Mode.{Mode};
 ghost use Rattle.messages.specs.Pieces.{piece_length_of};
 ghost use Rattle.radio.specs.ExciterCalls.{new_exciter};
 ghost use Rattle.radio.specs.ExciterStates.{exciter_state};
 ghost use Rattle.radio.specs.Lines.{line};
-ghost use Rattle.radio.specs.Promise.{RunsPromise};
+ghost use Rattle.radio.specs.Promise.{RunsPromise, RunsShown};
 ghost use Rattle.radio.specs.ReceiverStates.{receiver_state};
 
 use crate::exciter::Exciter;
@@ -20,7 +21,8 @@ use lineup::line_up::LineUp;
 use staircase::data_code::DataCode;
 use std::alloc::{AllocError, Global};
 
-// The promise is over the frames of all exciters with the codes and constellations, and over every history of calls on the two.
+// The promise is over the frames of all exciters with the codes and constellations, and over every history of calls on the two;
+// where the line-up is filled there is a history in which a message of two pieces is reported complete.
 pub fn pair<
     'a,
     M: FixedCode<2, 4> + MendingCode<Symbol = u8>,
@@ -42,6 +44,7 @@ pub fn pair<
 >
     ensures frames { IfOk result (λ p. FramesApart (exciter_state p.0).line.air (receiver_state p.1).ear (M.SendingCode.distance channel.now.mis) (T.SendingCode.distance channel.now.tis) (D.SendingCode.distance line_up.now.code)) }
     ensures runs { IfOk result (λ p. RunsPromise (piece_length_of (block_length (view_of line_up.now) - 6)) (exciter_state p.0) (receiver_state p.1)) }
+    ensures shown { IfOk result (λ p. (m : Mode) → line_up.now.mode ≡ Some m → RunsShown (piece_length_of (block_length (view_of line_up.now) - 6)) (exciter_state p.0) (receiver_state p.1)) }
 {
     let exciter = Exciter::new(heap, channel, line_up)?;
     let receiver = Receiver::new(heap, channel, line_up)?;

@@ -11,9 +11,13 @@ use Rattle.lineup.specs.declared.kind.CellKind.{CellKind}
 use Rattle.lineup.specs.declared.mode.Mode.{Mode}
 use Rattle.staircase.specs.declared.shape.Shape.{Shape}
 use Rattle.radio.specs.ExciterStates.{exciter_state}
+use Rattle.radio.specs.ReceiverCalls.{new_receiver}
 use Rattle.radio.specs.Lines.{Line, line}
 use Rattle.radio.specs.ReceiverStates.{receiver_state}
+use Rattle.lineup.proofs.Rooms.{roomy}
 use Rattle.radio.proofs.Promised.{runs_promised}
+use Rattle.radio.proofs.Reached.{Apart}
+use Rattle.radio.proofs.RunsShown.{runs_shown}
 use Rattle.radio.proofs.together.pair.Given as given
 use Rattle.radio.proofs.together.pair.Goals as goal
 
@@ -80,3 +84,37 @@ returns-clause-runs g c =
     let ear = mends g channel.mis channel.tis up.code channel.mis_points channel.tis_points channel.data_points c.in_ok-receiver.ensures.0 in
     runs_promised l l ear (exciter_state c.in_ok-exciter.exciter) (receiver_state c.in_ok-receiver.receiver) c.in_ok-exciter.ensures c.in_ok-receiver.ensures.1 refl
     (blocks_of up.mode (vec_items up.plan) (g.D.DataCode.shape up.code) (g.D.DataCode.exponents up.code) (g.D.SendingCode.message_length up.code) (g.met.D.DataCode.message_sized up.code))
+
+-- the codes of the TIS and of the data tell words apart, by the reach of the data code's copy
+module _ (g : given.Over) (mis : g.row.M.Denot) (tis : g.row.T.Denot) (code copy : g.row.D.Denot) (a : g.row.A.Denot) (b : g.row.B.Denot) (d : g.row.C.Denot)
+    (words : g.D.SendingCode.word copy ≡ g.D.SendingCode.word code) (size : g.D.SendingCode.message_length copy ≡ g.D.SendingCode.message_length code) where
+  apart : Apart (sends g mis tis code a b d) (mends g mis tis code a b d (g.D.MendingCode.reach copy))
+  apart =
+      record {
+        tis_distance = g.T.SendingCode.distance tis;
+        tis_distant = λ x y p q. g.met.T.SendingCode.distant tis x y (p ∙ sym (g.met.T.FixedCode.message tis)) (q ∙ sym (g.met.T.FixedCode.message tis));
+        tis_unique = g.met.T.MendingCode.unique tis;
+        data_distance = g.D.SendingCode.distance copy;
+        data_distant = λ x y p q i j few. g.met.D.SendingCode.distant copy x y (p ∙ sym size) (q ∙ sym size) i j (rw words few);
+        data_unique = g.met.D.MendingCode.unique copy;
+      }
+
+pub returns-clause-shown : goal.returns-clause-shown
+returns-clause-shown g c m is =
+    let channel = c.args.channel.now in
+    let up = c.args.line_up.now in
+    let copy = c.in_ok-receiver.receiver.line_up.code in
+    let heard = c.in_ok-receiver.ensures.1 in
+    let reach : g.D.MendingCode.reach copy ≡ c.in_ok-receiver.ensures.0 = ap (λ x. x.ear.data_reach) heard in
+    let words : g.D.SendingCode.word copy ≡ g.D.SendingCode.word up.code = ap (λ x. x.line.air.data_word) heard in
+    let size : g.D.SendingCode.message_length copy ≡ g.D.SendingCode.message_length up.code = ap (λ x. x.line.air.k) heard in
+    let air = sends g channel.mis channel.tis up.code channel.mis_points channel.tis_points channel.data_points in
+    let l = line air up.mode (vec_items up.plan) (block_length (view_of up)) in
+    let ear = mends g channel.mis channel.tis up.code channel.mis_points channel.tis_points channel.data_points (g.D.MendingCode.reach copy) in
+    let blocks = blocks_of up.mode (vec_items up.plan) (g.D.DataCode.shape up.code) (g.D.DataCode.exponents up.code) (g.D.SendingCode.message_length up.code) (g.met.D.DataCode.message_sized up.code) in
+    let receiver : receiver_state c.in_ok-receiver.receiver ≡ new_receiver l ear = heard ∙ ap (λ n. new_receiver l (mends g channel.mis channel.tis up.code channel.mis_points channel.tis_points channel.data_points n)) (sym reach) in
+    runs_shown l l ear (exciter_state c.in_ok-exciter.exciter) (receiver_state c.in_ok-receiver.receiver) c.in_ok-exciter.ensures receiver refl m is (blocks m is)
+    (known g channel.mis channel.tis up.code channel.mis_points channel.tis_points channel.data_points (g.D.MendingCode.reach copy))
+    (apart g channel.mis channel.tis up.code copy channel.mis_points channel.tis_points channel.data_points words size)
+    (roomy m (vec_items up.plan) (g.D.DataCode.shape up.code) (g.D.DataCode.exponents up.code) up.mode (vec_items up.plan) (g.D.SendingCode.message_length up.code) (g.D.SendingCode.word_length up.code) up.passed is refl (g.met.D.DataCode.message_sized up.code) (g.met.D.DataCode.word_sized up.code) (g.met.D.SendingCode.short up.code))
+    (runs_promised l l ear (exciter_state c.in_ok-exciter.exciter) (receiver_state c.in_ok-receiver.receiver) c.in_ok-exciter.ensures receiver refl blocks)
