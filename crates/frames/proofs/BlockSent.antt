@@ -1,5 +1,5 @@
 -- The block that is read is the one that was sent. Assumes nothing.
-use Rattle.std.proofs.Common.{◌≡◌, ℕ, ◌*◌, ◌<◌, ◌≤◌, Bool, List, length, Ok, Err, Result, refl, sym, ap, ◌∙◌, arith}
+use Rattle.std.proofs.Common.{◌≡◌, ℕ, ◌*◌, ◌<◌, ◌≤◌, Bool, List, length, Ok, Err, Result, refl, sym, ap, ◌∙◌}
 use Rattle.codes.specs.Symbols.{bit_number, differing, Below128}
 use Rattle.bits.specs.Bits.{AllBelow, cut, spread}
 use Rattle.bits.specs.Scrambling.{scrambled}

@@ -1,5 +1,5 @@
 -- A run that is reported complete: a message in two pieces is loaded, sent and taken.
-use Rattle.std.proofs.Common.{◌≡◌, ℕ, suc, ◌+◌, ◌-◌, ◌*◌, ◌%◌, ◌<◌, ◌≤◌, Bool, true, false, cond, eqb, ltb, List, [], ◌∷◌, length, get_or, replicate, ℤ, Some, None, Ok, Err, Result, sym, refl, ap, ◌∙◌, subst, inl, inr, ⊎_elim, lit<, lit≤, mod-lt, arith}
+use Rattle.std.proofs.Common.{◌≡◌, ℕ, suc, ◌+◌, ◌-◌, ◌*◌, ◌%◌, ◌<◌, Bool, true, false, cond, eqb, ltb, List, [], ◌∷◌, length, get_or, replicate, ℤ, Some, None, Ok, Err, Result, sym, refl, ap, ◌∙◌, subst, inl, inr, ⊎_elim, lit<, lit≤, mod-lt, arith}
 use native.Mathlib.Nat.{div-eq_of_lt-le}
 use Rattle.std.proofs.lemmas.List.{length-replicate}
 use Rattle.std.proofs.lemmas.Bool.{cases_eq, eq-eqb, le-ltb, ne_eqb}
@@ -21,7 +21,7 @@ use Rattle.lineup.specs.declared.mode.Mode.{Mode}
 use Rattle.messages.specs.CollectorCalls.{CollectorState, Placed-in, Standing, Taken-as, Taking, again, begun, completes, had, misplaced, more, new, new_collector, placed, same, standing}
 use Rattle.messages.specs.Histories.{Before, Due, In, Sent, Took}
 use Rattle.messages.specs.Packets.{packet_of}
-use Rattle.messages.specs.Pieces.{piece, piece_count, piece_length_of}
+use Rattle.messages.specs.Pieces.{piece_count, piece_length_of}
 use Rattle.messages.specs.Promise.{Brought, LastOutstanding, brings}
 use Rattle.messages.specs.SenderCalls.{SenderState, advanced, is_loaded, load_refusal, loaded, new_sender, next_packet}
 use Rattle.messages.specs.declared.content.Placing.{Placing}

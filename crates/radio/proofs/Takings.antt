@@ -1,11 +1,11 @@
 -- What take does, from what was read. Assumes nothing.
-use Rattle.std.proofs.Common.{◌≡◌, ℕ, Bool, true, false, List, length, ℤ, Some, None, Ok, Err, Option, Result, refl, sym, ap, ◌∙◌, subst}
+use Rattle.std.proofs.Common.{◌≡◌, Bool, true, false, List, length, ℤ, Some, Result, refl, sym, ap, ◌∙◌, subst}
 use Rattle.refusals.specs.declared.Refusal.{Refusal}
 use Rattle.frames.specs.Laying.{cells_in}
 use Rattle.frames.specs.Reading.{Told}
 use Rattle.frames.specs.declared.fault.FrameFault.{FrameFault}
 use Rattle.lineup.specs.declared.mode.Mode.{Mode}
-use Rattle.messages.specs.CollectorCalls.{CollectorState, Placed-in, Placing-in, Standing, Taken-as, Taking, again, begun, had, misplaced, more, new, same, standing}
+use Rattle.messages.specs.CollectorCalls.{CollectorState, Placed-in, Standing, Taken-as, Taking, again, begun, had, more, new, same, standing}
 use Rattle.messages.specs.declared.content.Placing.{Placing}
 use Rattle.packets.specs.Packets.{Content}
 use Rattle.std.specs.Prelude.{slice_index_or}

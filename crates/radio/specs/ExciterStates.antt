@@ -1,9 +1,8 @@
 -- What the contracts say of the exciter's private fields.
-use Rattle.std.specs.Prelude.{ℕ, vec_items}
+use Rattle.std.specs.Prelude.{vec_items}
 use Rattle.frames.specs.Frames.{sending}
-use Rattle.frames.specs.Reading.{Mending}
 use Rattle.lineup.specs.Views.{block_length, view_of}
-use Rattle.messages.specs.Views.{collector_state, sender_state}
+use Rattle.messages.specs.Views.{sender_state}
 use Rattle.radio.specs.Lines.{line}
 use Rattle.radio.specs.ExciterCalls.{ExciterState}
 use Rattle.radio.specs.declared.exciter.Exciter.{Exciter}

@@ -13,7 +13,6 @@ use Rattle.cells.specs.declared.cell.Order.{Order}
 use Rattle.frames.specs.Frames.{Sending}
 use Rattle.messages.specs.CollectorCalls.{CollectorState, Fetching, Taking, new_collector}
 use Rattle.messages.specs.declared.content.Placing.{Placing}
-use Rattle.modes.specs.declared.station.Station.{Station}
 use Rattle.radio.specs.Lines.{Line, line, paired}
 use Rattle.radio.specs.declared.answer.Taken.{Taken}
 

@@ -1,5 +1,5 @@
 -- What the contracts say of the receiver's private fields.
-use Rattle.std.specs.Prelude.{ℕ, vec_items}
+use Rattle.std.specs.Prelude.{vec_items}
 use Rattle.frames.specs.Frames.{sending}
 use Rattle.frames.specs.Reading.{mending}
 use Rattle.lineup.specs.Views.{block_length, view_of}

@@ -1,4 +1,4 @@
-use Rattle.std.proofs.Common.{◌≡◌, ◌++◌, ap, sym, ◌∙◌, arith}
+use Rattle.std.proofs.Common.{arith}
 use Rattle.staircase.specs.Near.{below-bits}
 use Rattle.frames.proofs.DataWords.{within_none, within_both, lost_behind, lost_first}
 use Rattle.frames.proofs.words.+mend_words.Goals as goal

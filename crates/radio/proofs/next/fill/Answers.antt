@@ -1,6 +1,6 @@
 use Rattle.bits.proofs.ByteLaws.{below_from}
 use Rattle.packets.specs.Packets.{Fits, content_of}
-use Rattle.std.proofs.Common.{length, arith, rules}
+use Rattle.std.proofs.Common.{length}
 use Rattle.radio.proofs.Blocks.{written}
 use Rattle.radio.proofs.next.fill.Goals as goal
 

@@ -1,4 +1,3 @@
-use Rattle.std.proofs.Common.{◌≡◌, ℕ, ◌-◌, List, length, take, Ok, sym, ap, ◌∙◌, subst, arith, rules}
 use Rattle.messages.specs.SenderCalls.{next_packet}
 use Rattle.messages.specs.Views.{sender_state}
 use Rattle.radio.proofs.Blocks.{carried_packet}

@@ -1,5 +1,4 @@
 use Rattle.std.proofs.Common.{◌≡◌, ℕ, ◌*◌, List, ℤ, vec_items, Some, Option, refl, sym, ap, ◌∙◌}
-use Rattle.frames.specs.Apart.{FramesApart}
 use Rattle.frames.specs.Frames.{Sending, sending}
 use Rattle.frames.specs.Reading.{Mending, mending}
 use Rattle.frames.proofs.Apart.{Distant, frames_apart}
@@ -12,7 +11,7 @@ use Rattle.lineup.specs.declared.mode.Mode.{Mode}
 use Rattle.staircase.specs.declared.shape.Shape.{Shape}
 use Rattle.radio.specs.ExciterStates.{exciter_state}
 use Rattle.radio.specs.ReceiverCalls.{new_receiver}
-use Rattle.radio.specs.Lines.{Line, line}
+use Rattle.radio.specs.Lines.{line}
 use Rattle.radio.specs.ReceiverStates.{receiver_state}
 use Rattle.lineup.proofs.Rooms.{roomy}
 use Rattle.radio.proofs.Promised.{runs_promised}

@@ -1,8 +1,7 @@
-use Rattle.std.proofs.Common.{◌≡◌, lit≤, [], refl, sym, ◌∙◌, arith}
+use Rattle.std.proofs.Common.{lit≤, [], refl, sym, ◌∙◌, arith}
 use Rattle.std.proofs.lemmas.List.{append-nil}
 use Rattle.cells.specs.declared.cell.Order.TheVariants.{Four}
 use Rattle.lineup.specs.declared.kind.CellKind.TheVariants.{Mis as MisKind}
-use Rattle.modem.specs.Carrying.{symbols_of}
 use Rattle.modem.specs.MisStream.{mis_cells}
 use Rattle.streams.specs.Mis.{mis_record, mis_read}
 use Rattle.frames.specs.Laying.{cells_in, picked}

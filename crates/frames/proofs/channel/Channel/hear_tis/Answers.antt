@@ -1,8 +1,7 @@
-use Rattle.std.proofs.Common.{◌≡◌, ℕ, ◌-◌, ◌*◌, ◌≤◌, length, replicate, refl, sym, ap, ◌∙◌, arith}
+use Rattle.std.proofs.Common.{◌≡◌, ◌-◌, length, replicate, sym, ◌∙◌, arith}
 use Rattle.cells.specs.Cells.{cell_bits}
 use Rattle.cells.specs.Mapping.{origin}
 use Rattle.lineup.specs.declared.kind.CellKind.TheVariants.{Tis as TisKind}
-use Rattle.modem.specs.Carrying.{cells_of, symbols_of}
 use Rattle.modem.specs.TisStream.{tis_cells, tis_message, tis_order}
 use Rattle.modes.specs.Modes.{tis_count}
 use Rattle.streams.specs.Tis.{tis_record, tis_read}

@@ -1,7 +1,7 @@
-use Rattle.std.proofs.Common.{◌≡◌, ◌*◌, ◌≤◌, ◌/◌, length, replicate, take, sym, ap, ◌∙◌, arith, length-take}
+use Rattle.std.proofs.Common.{◌≡◌, ◌*◌, ◌≤◌, ◌/◌, length, replicate, take, ap, ◌∙◌, arith, length-take}
 use lib.ListN.{length-replicate}
 use Rattle.cells.specs.Cells.{cell_bits}
-use Rattle.cells.specs.Mapping.{decided_bits, origin}
+use Rattle.cells.specs.Mapping.{origin}
 use Rattle.lineup.specs.declared.kind.CellKind.TheVariants.{Data as DataKind}
 use Rattle.lineup.specs.Layouts.{words_of}
 use Rattle.frames.specs.Frames.{data_order}

@@ -1,4 +1,4 @@
-use Rattle.std.proofs.Common.{◌≡◌, ◌*◌, ◌≤◌, length, Ok, Err, sym, ap, ◌∙◌, arith, rules}
+use Rattle.std.proofs.Common.{◌*◌, ◌≤◌, length, ap, arith}
 use Rattle.cells.specs.Mapping.{decided_bits}
 use Rattle.lineup.specs.Layouts.{kind_count, words_of}
 use Rattle.lineup.specs.declared.kind.CellKind.TheVariants.{Data as DataKind}

@@ -1,4 +1,4 @@
-use Rattle.std.proofs.Common.{◌≡◌, ℕ, ◌*◌, List, length, length-take, refl, sym, ap, ◌∙◌, arith}
+use Rattle.std.proofs.Common.{◌≡◌, ℕ, ◌*◌, List, length, length-take, refl, sym, ◌∙◌, arith}
 use lib.ListN.{length-replicate}
 use Rattle.bits.specs.Bits.{spread}
 use Rattle.bits.specs.Scrambling.{scrambled}

@@ -4,7 +4,6 @@ use Rattle.lineup.specs.Stated.{stated_mis}
 use Rattle.lineup.specs.declared.kind.CellKind.TheVariants.{Mis as MisKind}
 use Rattle.modem.specs.MisStream.{mis_message}
 use Rattle.modem.specs.Reading.{StreamWithin}
-use Rattle.modes.specs.declared.mode.Mis.{Mis}
 use Rattle.frames.specs.Laying.{cells_in, picked}
 use Rattle.frames.proofs.channel.Channel.read_mode.Goals as goal
 

@@ -1,9 +1,9 @@
-use Rattle.std.proofs.Common.{◌≡◌, ℕ, List, Ok, subst, sym, ◌∙◌, rules}
+use Rattle.std.proofs.Common.{◌≡◌, ℕ, List, Ok, subst, rules}
 use Rattle.codes.specs.Mending.{Within}
-use Rattle.lineup.specs.Stated.{coding_of, stated_tis}
+use Rattle.lineup.specs.Stated.{coding_of}
 use Rattle.lineup.specs.declared.kind.CellKind.TheVariants.{Tis as TisKind}
 use Rattle.modem.specs.Carrying.{symbols_of}
-use Rattle.modem.specs.TisStream.{tis_message, tis_order}
+use Rattle.modem.specs.TisStream.{tis_order}
 use Rattle.frames.specs.Laying.{cells_in, picked}
 use Rattle.frames.proofs.OnStreams.{message_stated}
 use Rattle.frames.proofs.channel.Channel.read_station.Goals as goal

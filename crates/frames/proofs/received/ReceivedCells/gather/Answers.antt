@@ -1,4 +1,4 @@
-use Rattle.std.proofs.Common.{length, take, refl, arith}
+use Rattle.std.proofs.Common.{length, take, arith}
 use Rattle.lineup.specs.declared.kind.CellKind.TheVariants.{Empty}
 use Rattle.frames.specs.Laying.{cells_in, picked}
 use Rattle.frames.proofs.OnPlans.{gather_all, gather_here, gather_full, gather_other}

@@ -1,10 +1,8 @@
-use Rattle.std.proofs.Common.{◌≡◌, ℕ, ◌*◌, ◌≤◌, length, length-take, replicate, take, vec_items, Some, true, refl, sym, ap, ◌∙◌, subst, arith, rules}
+use Rattle.std.proofs.Common.{◌≡◌, ℕ, ◌*◌, length, length-take, replicate, take, vec_items, Some, true, ap, arith, rules}
 use lib.ListN.{length-replicate}
 use Rattle.std.proofs.lemmas.Bool.{eq-eqb}
 use Rattle.lineup.specs.Layouts.{block_length_of}
-use Rattle.messages.specs.SenderCalls.{advanced, is_loaded, next_packet}
-use Rattle.messages.specs.Views.{sender_state}
-use Rattle.packets.specs.Packets.{Fits}
+use Rattle.messages.specs.SenderCalls.{is_loaded}
 use Rattle.radio.specs.ExciterCalls.{with_sender}
 use Rattle.radio.specs.ExciterStates.{exciter_state}
 use Rattle.radio.proofs.Calls.{passes_send}

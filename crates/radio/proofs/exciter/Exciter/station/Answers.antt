@@ -1,5 +1,4 @@
 use Rattle.std.proofs.Common.{◌≡◌, Some, refl, rules}
-use Rattle.radio.specs.ExciterCalls.{HasNumbers}
 use Rattle.radio.proofs.exciter.Exciter.station.Goals as goal
 
 pub returns : goal.returns

@@ -1,10 +1,8 @@
-use Rattle.std.proofs.Common.{◌≡◌, ◌*◌, length, vec_items, Some, Ok, Err, true, refl, sym, ap, ◌∙◌, rules}
+use Rattle.std.proofs.Common.{◌≡◌, ◌*◌, length, vec_items, Some, Ok, Err, refl, sym, ap, ◌∙◌, rules}
 use Rattle.std.proofs.lemmas.Bool.{eq-eqb}
-use Rattle.std.proofs.lemmas.Result.{err_from_is_err_and}
 use Rattle.frames.specs.Faults.{refusal_of}
 use Rattle.frames.specs.Tellings.{told, told_of}
 use Rattle.messages.specs.Views.{collector_state}
-use Rattle.packets.specs.Packets.{carried}
 use Rattle.radio.specs.ReceiverCalls.{taken_as}
 use Rattle.radio.specs.ReceiverStates.{receiver_state}
 use Rattle.radio.proofs.Takings.{taking_keeps, takes_read}
