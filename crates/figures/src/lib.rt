@@ -22,6 +22,8 @@ mod checks;
 #[cfg(test)]
 mod neighbours;
 #[cfg(test)]
+mod notice;
+#[cfg(test)]
 mod rows;
 #[cfg(test)]
 mod words;
