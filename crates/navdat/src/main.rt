@@ -7,7 +7,6 @@ mod frames;
 mod held;
 mod mis;
 mod packet;
-mod parts;
 mod script;
 mod steps;
 mod tis;
