@@ -1,4 +1,6 @@
 mod Arrays
 mod Cells
 mod Lists
+mod Naming
 mod Parsing
+mod Printing

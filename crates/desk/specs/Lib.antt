@@ -2,6 +2,8 @@ pub mod Changes
 pub mod Frames
 pub mod Loads
 pub mod Numbers
+pub mod Parts
+pub mod Runs
 pub mod Settings
 pub mod Shown
 pub mod Texts

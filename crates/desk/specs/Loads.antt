@@ -7,7 +7,7 @@ use Rattle.hex.specs.declared.error.FromHexError.{FromHexError}
 use Rattle.desk.specs.declared.trouble.Trouble.{Trouble}
 use Rattle.desk.specs.declared.trouble.Trouble.TheVariants.{NoCommand, TooFew, TooMany}
 use Rattle.desk.specs.Numbers.{count_of}
-use Rattle.desk.specs.Troubles.{hex_trouble}
+use Rattle.desk.specs.Troubles.{◌>>=◌, hex_trouble}
 
 -- what hexadecimal digits write
 abbrev pub decoded : Result (List ℕ) FromHexError → Result (List ℕ) Trouble
@@ -24,16 +24,13 @@ hex_bytes (digits ∷ more ∷ words) = Err TooMany
 abbrev pub ramp_of : ℕ → List ℕ
 ramp_of count = map (λ i. i % 251) (range_with_len 0 count)
 
--- a ramp of so many bytes
-abbrev pub ramped : Result ℕ Trouble → Result (List ℕ) Trouble
-ramped (Ok count) = Ok (ramp_of count)
-ramped (Err why) = Err why
-
 -- the bytes behind `ramp`: as many as its one word says
 abbrev pub ramp_bytes : List (List ℕ) → Result (List ℕ) Trouble
 ramp_bytes [] = Err TooFew
-ramp_bytes (count ∷ []) = ramped (count_of count)
-ramp_bytes (count ∷ more ∷ words) = Err TooMany
+ramp_bytes (word ∷ []) = do
+  count ← count_of word
+  Ok (ramp_of count)
+ramp_bytes (word ∷ more ∷ words) = Err TooMany
 
 -- the bytes that words ask for: `hex HEX`, `hex` or `ramp N`
 abbrev pub loaded_of : List (List ℕ) → Result (List ℕ) Trouble

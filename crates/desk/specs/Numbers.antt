@@ -5,6 +5,7 @@ use Rattle.std.specs.Str.Parse.{digits_value, starts_with_minus}
 use Rattle.std.specs.declared.num.ParseIntError.{ParseIntError}
 use Rattle.desk.specs.declared.trouble.Trouble.{Trouble}
 use Rattle.desk.specs.declared.trouble.Trouble.TheVariants.{NoNumber, OutOfRange}
+use Rattle.desk.specs.Troubles.{◌>>=◌}
 
 -- r is what `parse` gives of a word, and where that is an error the word is no number
 abbrev pub Parses : {T : Type 0} → (List ℕ → Result T ParseIntError → Type 0) → List ℕ → Result T Trouble → Type 0
@@ -25,14 +26,11 @@ signed_of word =
     (cond (writes_below 32769 (drop 1 word)) (Ok (neg_ℤ (pos (digits_value 10 (drop 1 word))))) (Err NoNumber))
     (cond (writes_below 32768 word) (Ok (pos (digits_value 10 word))) (Err NoNumber))
 
--- a number that is not above `most`
-abbrev pub up_to : ℕ → Result ℕ Trouble → Result ℕ Trouble
-up_to most (Ok n) = cond (nat_le n most) (Ok n) (Err OutOfRange)
-up_to most (Err why) = Err why
-
 -- the number from 0 to `most` that a word writes
 abbrev pub natural_of : ℕ → List ℕ → Result ℕ Trouble
-natural_of most word = up_to most (unsigned_of word)
+natural_of most word = do
+  n ← unsigned_of word
+  cond (nat_le n most) (Ok n) (Err OutOfRange)
 
 -- a count, a size or a place
 abbrev pub count_of : List ℕ → Result ℕ Trouble

@@ -8,6 +8,7 @@ use Rattle.modes.specs.Modes.{occupancy_number, tis_number, data_number}
 use Rattle.refusals.specs.declared.Refusal.{Refusal}
 use Rattle.refusals.specs.declared.Refusal.TheVariants.{PlanByte, ExponentOutOfRange, OtherMode, DataBeyondReach}
 use Rattle.refusals.specs.Refusals.{known}
+use Rattle.desk.specs.Parts.{station_numbers}
 
 -- numbers, a space before each
 abbrev pub spaced : List ℕ → List ℕ
@@ -24,7 +25,7 @@ mode_text m = parted (occupancy_number m.occupancy ∷ tis_number m.tis ∷ data
 
 -- station, hour, minute and duration
 abbrev pub station_text : Station → List ℕ
-station_text s = parted (s.number ∷ s.hour ∷ s.minute ∷ s.duration ∷ [])
+station_text s = parted (station_numbers s)
 
 -- the data coding, and the station
 abbrev pub tis_text : Tis → List ℕ

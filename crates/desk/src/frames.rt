@@ -1,6 +1,6 @@
 // The frames of a script, numbered from 0.
-ghost use Rattle.std.specs.Prelude.{◌≡◌, ◌++◌, ◌∷◌, [], length, IfOk, MatchResult, OnErr, vec_items};
-ghost use Rattle.desk.specs.Changes.{Does, MayDo};
+ghost use Rattle.std.specs.Prelude.{◌≡◌, ◌++◌, ◌∷◌, [], length, IfOk, OnErr, vec_items};
+ghost use Rattle.desk.specs.Changes.{Does, Makes, MayDo};
 
 use crate::trouble::Trouble;
 use std::alloc::{AllocError, Global};
@@ -34,7 +34,7 @@ impl Frames {
 
     // The numbers of a frame.
     pub fn get(&self, frame: usize) -> Result<&[i16], Trouble>
-        ensures { MatchResult result (λ numbers. shown frame (frames_of self.now) ≡ Ok numbers.now) (λ why. shown frame (frames_of self.now) ≡ Err why) }
+        ensures { Makes (shown frame (frames_of self.now)) (λ numbers. numbers.now) result }
     {
         match self.frames.get(frame) {
             Some(numbers) => Ok(numbers),

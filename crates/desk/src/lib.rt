@@ -4,6 +4,8 @@
 pub mod frames;
 pub mod loads;
 pub mod numbers;
+pub mod parts;
+pub mod runs;
 pub mod settings;
 pub mod shown;
 pub mod text;

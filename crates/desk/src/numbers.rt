@@ -1,5 +1,5 @@
 // The numbers of a script: decimal, with `-` in front of a negative one.
-ghost use Rattle.std.specs.Prelude.{◌≡◌, ◌≢◌, slice_index};
+ghost use Rattle.std.specs.Prelude.{◌≡◌, ◌≢◌, ◌≤◌, IfOk, slice_index};
 ghost use Rattle.desk.specs.Numbers.{Parses, count_of, natural_of, signed_of, unsigned_of};
 ghost use Rattle.desk.specs.declared.trouble.Trouble.TheVariants.{NoNumber};
 
@@ -48,7 +48,8 @@ pub fn natural(word: &str, most: u32) -> Result<u32, Trouble>
 
 // A count, a size or a place.
 pub fn count(word: &str) -> Result<usize, Trouble>
-    ensures { result ≡ count_of word.now }
+    ensures value { result ≡ count_of word.now }
+    ensures most { IfOk result (λ n. n ≤ 1000000) }
 {
     Ok(natural(word, MOST_COUNT)? as usize)
 }

@@ -1,15 +1,15 @@
 // What the program prints of bits and numbers.
-ghost use Rattle.std.specs.Prelude.{◌≡◌, [], ◌∷◌, All, IfOk, IsSome, encode_utf8_all, map, unwrap_or};
+ghost use Rattle.std.specs.Prelude.{◌≡◌, [], ◌∷◌, ◌++◌, All, IfOk, IsSome, OnOk, encode_utf8_all, map, unwrap_or};
 ghost use Rattle.std.specs.List.{flat_map};
 ghost use Rattle.std.specs.String.{string_bytes};
-ghost use Rattle.desk.specs.Texts.{bit_digit, numbers_of};
+ghost use Rattle.desk.specs.Texts.{bit_digit, cells_shown, numbers_of, step_line, steps_lines, symbols_shown};
 
 use cells::Cell;
 use std::alloc::{AllocError, Global};
 use std::fmt::Display;
 
 // Bits as one word, in sending order.
-pub fn bits_text(heap: Global, bits: &[bool]) -> Result<String, AllocError>
+fn bits_text(heap: Global, bits: &[bool]) -> Result<String, AllocError>
     ensures { IfOk result (λ text. string_bytes text ≡ encode_utf8_all (map bit_digit bits.now)) }
 {
     bits.iter()
@@ -37,8 +37,57 @@ fn numbers_of(cell: &Cell) -> [i16; 2]
 }
 
 // The numbers of cells, two a cell.
-pub fn cell_numbers(heap: Global, cells: &[Cell]) -> Result<Vec<i16>, AllocError>
+fn cell_numbers(heap: Global, cells: &[Cell]) -> Result<Vec<i16>, AllocError>
     ensures { IfOk result (λ numbers. numbers.items ≡ flat_map numbers_of cells.now) }
 {
     cells.iter().flat_map(numbers_of).collect(heap)
+}
+
+// Symbols, a space before each.
+fn symbols_text(heap: Global, symbols: &[u8]) -> Result<String, AllocError>
+    ensures { IfOk result (λ text. string_bytes text ≡ symbols_shown symbols.now) }
+{
+    numbers_text(heap, symbols)
+}
+
+// The numbers of cells, a space before each.
+fn cells_text(heap: Global, cells: &[Cell]) -> Result<String, AllocError>
+    ensures { IfOk result (λ text. string_bytes text ≡ cells_shown cells.now) }
+{
+    numbers_text(heap, &cell_numbers(heap, cells)?)
+}
+
+// A stream at every step of sending.
+#[derive(Clone, Copy)]
+pub struct Steps<'a> {
+    pub record: &'a [bool],
+    pub scrambled: &'a [bool],
+    pub message: &'a [u8],
+    pub word: &'a [u8],
+    pub cells: &'a [Cell],
+}
+
+// Adds the line of a step: the stream's name, a label and what is shown.
+fn add_line(text: &mut String, name: &str, label: &str, shown: &str) -> Result<(), AllocError>
+    ensures { OnOk result (string_bytes text.new ≡ string_bytes text.old ++ step_line name.now label.now shown.now) }
+{
+    writeln!(text, "{name}{label}{shown}")
+}
+
+// A line for each step, with the stream's name.
+pub fn steps_text(heap: Global, name: &str, steps: Steps<'_>) -> Result<String, AllocError>
+    ensures { IfOk result (λ text. string_bytes text ≡ steps_lines name.now steps.entry) }
+{
+    let mut text = String::new(heap);
+    let record = bits_text(heap, steps.record)?;
+    add_line(&mut text, name, ": record ", &record)?;
+    let scrambled = bits_text(heap, steps.scrambled)?;
+    add_line(&mut text, name, ": scrambled ", &scrambled)?;
+    let message = symbols_text(heap, steps.message)?;
+    add_line(&mut text, name, ": message", &message)?;
+    let word = symbols_text(heap, steps.word)?;
+    add_line(&mut text, name, ": word", &word)?;
+    let cells = cells_text(heap, steps.cells)?;
+    add_line(&mut text, name, ": cells", &cells)?;
+    Ok(text)
 }

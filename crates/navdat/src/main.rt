@@ -8,7 +8,6 @@ mod held;
 mod listing;
 mod mis;
 mod packet;
-mod parts;
 mod receiving;
 mod script;
 mod steps;

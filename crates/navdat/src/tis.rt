@@ -1,21 +1,17 @@
 // `tis O D R S H M U Q [I=V …]`: the TIS of a mode and a station, step by step, and what reading its cells gives.
 use crate::answer::print_answer;
-use crate::parts::part;
 use crate::steps::steps_of;
 use cells::Qam;
-use desk::numbers::unsigned;
+use desk::parts::{part, station};
 use desk::settings::set_numbers;
 use desk::shown::TisNumbers;
+use desk::text::steps_text;
 use desk::trouble::{Stop, Trouble};
 use frames::FrameFault;
 use modem::{read_tis, write_tis};
-use modes::{Station, Tis, data_coding};
+use modes::{Tis, data_coding};
 use reed_solomon::streams::tis as tis_code;
 use std::alloc::Global;
-
-fn station(s: &str, h: &str, m: &str, u: &str) -> Result<Station, Trouble> {
-    Station::new(unsigned(s)?, unsigned(h)?, unsigned(m)?, unsigned(u)?).ok_or(Trouble::OutOfRange)
-}
 
 // Runs the command's words, and prints nothing where one of them is wrong.
 pub fn run_tis(rt: &impl Print, heap: Global, words: &[&str]) -> Result<(), Stop> {
@@ -30,7 +26,8 @@ pub fn run_tis(rt: &impl Print, heap: Global, words: &[&str]) -> Result<(), Stop
     let count = constellation.cell_count();
     let mut cells = trace.cells;
     set_numbers(settings, &mut cells[..count])?;
-    steps_of(&trace, count).print(rt, heap, "tis")?;
+    let steps = steps_of(&trace, count);
+    print!(rt; "{}", steps_text(heap, "tis", steps)?)?;
     let answer = read_tis(&tis_code(), &Qam, constellation, &cells).map_err(FrameFault::Tis);
     print_answer(rt, "tis", answer, TisNumbers)?;
     Ok(())

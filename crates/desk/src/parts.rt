@@ -1,0 +1,33 @@
+// Parts of a mode and a station, by the numbers that a script has for them.
+ghost use Rattle.std.specs.Prelude.{◌≡◌};
+ghost use Rattle.desk.specs.Changes.{Makes};
+ghost use Rattle.desk.specs.Parts.{Names, mode_of, station_asked, station_numbers};
+
+use crate::numbers::unsigned;
+use crate::trouble::Trouble;
+use modes::{Mis, Station, UnknownNumber};
+
+// The part of a mode that a word names by its number.
+pub fn part<T: TryFrom<u32, Error = UnknownNumber>>(word: &str) -> Result<T, Trouble>
+    ensures { Names T.try_from_gives word.now result }
+{
+    Ok(T::try_from(unsigned(word)?)?)
+}
+
+// The mode that a MIS states, by its three numbers.
+pub fn mode(o: &str, t: &str, d: &str) -> Result<Mis, Trouble>
+    ensures { result ≡ mode_of o.now t.now d.now }
+{
+    Ok(Mis {
+        occupancy: part(o)?,
+        tis: part(t)?,
+        data: part(d)?,
+    })
+}
+
+// A station record, by station, hour, minute and duration.
+pub fn station(s: &str, h: &str, m: &str, d: &str) -> Result<Station, Trouble>
+    ensures { Makes (station_asked s.now h.now m.now d.now) station_numbers result }
+{
+    Station::new(unsigned(s)?, unsigned(h)?, unsigned(m)?, unsigned(d)?).ok_or(Trouble::OutOfRange)
+}
