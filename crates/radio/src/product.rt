@@ -1,8 +1,14 @@
 // The codes and constellations of the product: RS(4,2), RS(29,9), the staircase code and QAM.
-ghost use Rattle.std.specs.Prelude.{◌≡◌, IfOk};
+ghost use Rattle.std.specs.Prelude.{◌≡◌, ◌-◌, IfOk, Some};
 ghost use Rattle.frames.specs.Apart.{FramesApart};
+ghost use Rattle.lineup.specs.Views.{block_length, view_of};
+ghost use Rattle.lineup.specs.declared.mode.Mode.{Mode};
+ghost use Rattle.messages.specs.Pieces.{piece_length_of};
 ghost use Rattle.reed_solomon.specs.Generators.{generator_of};
+ghost use Rattle.radio.specs.ExciterCalls.{new_exciter};
 ghost use Rattle.radio.specs.ExciterStates.{exciter_state};
+ghost use Rattle.radio.specs.Promise.{RunsPromise, RunsShown};
+ghost use Rattle.radio.specs.ReceiverCalls.{new_receiver};
 ghost use Rattle.radio.specs.ReceiverStates.{receiver_state};
 
 use crate::exciter::Exciter;
@@ -43,13 +49,18 @@ pub fn navdat_channel() -> NavdatChannel
 }
 
 // An exciter and a receiver of the product. Frames differ in at least 3 of the 4 symbols of the MIS, or state the same in it;
-// and in at least 21 of the 29 symbols of the TIS, or state the same in that.
+// and in at least 21 of the 29 symbols of the TIS, or state the same in that. Of every run of the two, what `pair` promises.
 pub fn navdat_pair<'a>(
     heap: Global,
     channel: &'a NavdatChannel,
     line_up: &StaircaseLineUp,
 ) -> Result<(NavdatExciter<'a>, NavdatReceiver<'a>), AllocError>
-    ensures { IfOk result (λ p. FramesApart (exciter_state p.0).line.air (receiver_state p.1).ear 3 21 1) }
+    ensures exciter { IfOk result (λ p. exciter_state p.0 ≡ new_exciter (exciter_state p.0).line) }
+    ensures receiver { IfOk result (λ p. receiver_state p.1 ≡ new_receiver (exciter_state p.0).line (receiver_state p.1).ear) }
+    ensures line_up { IfOk result (λ p. ((exciter_state p.0).line.mode ≡ line_up.now.mode) × ((exciter_state p.0).line.plan ≡ line_up.now.plan.items)) }
+    ensures frames { IfOk result (λ p. FramesApart (exciter_state p.0).line.air (receiver_state p.1).ear 3 21 1) }
+    ensures runs { IfOk result (λ p. RunsPromise (piece_length_of (block_length (view_of line_up.now) - 6)) (exciter_state p.0) (receiver_state p.1)) }
+    ensures shown { IfOk result (λ p. (m : Mode) → line_up.now.mode ≡ Some m → RunsShown (piece_length_of (block_length (view_of line_up.now) - 6)) (exciter_state p.0) (receiver_state p.1)) }
 {
     pair(heap, channel, line_up)
 }
