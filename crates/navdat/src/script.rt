@@ -20,27 +20,29 @@ fn words(heap: Global, line: &str) -> Result<Vec<&str>, AllocError> {
 
 // Runs the words of a line.
 fn run_words(rt: &impl Print, held: &mut Held, words: &[&str]) -> Result<(), Stop> {
-    match words {
-        [] => Ok(()),
-        ["plan", rest @ ..] => run_plan(rt, held, rest),
-        ["exponents", rest @ ..] => run_exponents(rt, held, rest),
-        ["fill", rest @ ..] => run_fill(rt, held, rest),
-        ["exciter", rest @ ..] => run_exciter(rt, held, rest),
-        ["receiver", rest @ ..] => run_receiver(rt, held, rest),
-        ["station", rest @ ..] => run_station(rt, held, rest),
-        ["load", rest @ ..] => run_load(rt, held, rest),
-        ["send", rest @ ..] => run_send(rt, held, rest),
-        ["clear", rest @ ..] => run_clear(rt, held, rest),
-        ["copy", rest @ ..] => run_copy(rt, &mut held.frames, rest),
-        ["set", rest @ ..] => run_set(rt, &mut held.frames, rest),
-        ["resize", rest @ ..] => run_resize(rt, &mut held.frames, rest),
-        ["show", rest @ ..] => run_show(rt, held.heap, &held.frames, rest),
-        ["take", rest @ ..] => run_take(rt, held, rest),
-        ["fetch", rest @ ..] => run_fetch(rt, held, rest),
-        ["mis", rest @ ..] => run_mis(rt, held.heap, rest),
-        ["tis", rest @ ..] => run_tis(rt, held.heap, rest),
-        ["packet", rest @ ..] => run_packet(rt, held.heap, rest),
-        ["block", rest @ ..] => run_block(rt, held.heap, rest),
+    let [command, rest @ ..] = words else {
+        return Ok(());
+    };
+    match *command {
+        "plan" => run_plan(rt, held, rest),
+        "exponents" => run_exponents(rt, held, rest),
+        "fill" => run_fill(rt, held, rest),
+        "exciter" => run_exciter(rt, held, rest),
+        "receiver" => run_receiver(rt, held, rest),
+        "station" => run_station(rt, held, rest),
+        "load" => run_load(rt, held, rest),
+        "send" => run_send(rt, held, rest),
+        "clear" => run_clear(rt, held, rest),
+        "copy" => run_copy(rt, &mut held.frames, rest),
+        "set" => run_set(rt, &mut held.frames, rest),
+        "resize" => run_resize(rt, &mut held.frames, rest),
+        "show" => run_show(rt, held.heap, &held.frames, rest),
+        "take" => run_take(rt, held, rest),
+        "fetch" => run_fetch(rt, held, rest),
+        "mis" => run_mis(rt, held.heap, rest),
+        "tis" => run_tis(rt, held.heap, rest),
+        "packet" => run_packet(rt, held.heap, rest),
+        "block" => run_block(rt, held.heap, rest),
         _ => Err(Trouble::NoCommand.into()),
     }
 }
