@@ -6,17 +6,18 @@ use Rattle.bits.specs.Scrambling.{scrambled}
 use Rattle.bits.proofs.Bits.{cut-spread}
 use Rattle.bits.proofs.Sequences.{scrambled-scrambled}
 use Rattle.frames.specs.Words.{DataMended, coded, wrong_bits}
+use Rattle.frames.specs.declared.fault.LostWord.{LostWord}
 use Rattle.frames.proofs.Within.{one_words, words_at, words_sent}
 
 module _ (word : List Bool → List Bool) (reach k n : ℕ) (sized : (x : List Bool) → length x ≡ k → length (word x) ≡ n) (distance : ℕ)
     (distant : (a b : List Bool) → length a ≡ k → length b ≡ k → Below128 bit_number a → Below128 bit_number b → differing bit_number (word a) (word b) < distance → a ≡ b)
     (unique : 2 * reach < distance) where
-  pub messages_sent : (count : ℕ) (bits messages sent : List Bool) (r : Result (Unit {0}) ℕ) → count * n ≤ length bits → length messages ≡ count * k → length sent ≡ count * k
+  pub messages_sent : (count : ℕ) (bits messages sent : List Bool) (r : Result (Unit {0}) LostWord) → count * n ≤ length bits → length messages ≡ count * k → length sent ≡ count * k
       → ((i : ℕ) → i < count → wrong_bits n i (coded word k count sent) bits ≤ reach) → DataMended word reach k n count bits messages r → (r ≡ Ok tt) × (messages ≡ sent)
   messages_sent count bits messages sent (Ok tt) room size long near w =
       (refl, one_words word reach k n sized distance distant unique count bits messages sent room size long w (words_sent word reach k n sized count bits sent long near))
-  messages_sent count bits messages sent (Err i) room size long near w =
-      let one = words_at word reach k n count i bits sent (words_sent word reach k n sized count bits sent long near) w.0 in
+  messages_sent count bits messages sent (Err lost) room size long near w =
+      let one = words_at word reach k n count lost.word bits sent (words_sent word reach k n sized count bits sent long near) w.0 in
       absurd (w.1 _ one.0 one.1)
 
 -- the bytes that are cut from the messages sent are those of the block

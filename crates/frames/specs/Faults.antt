@@ -20,5 +20,5 @@ refusal_of (Mis f) = mis_refusal f
 refusal_of (OtherMode mis) = OtherModeRefusal mis
 refusal_of (Tis f) = tis_refusal f
 refusal_of OtherDataCoding = OtherDataCodingRefusal
-refusal_of (Data word) = DataBeyondReach word
+refusal_of (Data lost) = DataBeyondReach lost.word
 refusal_of (Packet f) = BadPacket

@@ -114,8 +114,8 @@ module _ (s : Sending) (m : Mending) (plan : List CellKind) (mode : Mode) (cells
   FrameAnswer (Err (TisFault f)) = (e : ℕ) × MisPasses e × TisTold (Err f)
   FrameAnswer (Err OtherDataCoding) =
       (x : ℕ) × MisPasses x × (t : Tis) × (y : ℕ) × TisTold (Ok (record { stated = t; mended = y })) × (t.coding ≡ coding_of mode → ⊥)
-  FrameAnswer (Err (DataFault word)) =
-      Passes × (word < words_of mode) × WordLost s.data_word m.data_reach s.k s.n word (data_stream m plan mode cells)
+  FrameAnswer (Err (DataFault lost)) =
+      Passes × (lost.word < words_of mode) × WordLost s.data_word m.data_reach s.k s.n lost.word (data_stream m plan mode cells)
   FrameAnswer (Err (PacketFault f)) =
       Passes × (block : List ℕ) × (length block ≡ block_length_of mode s.k) × AllBelow 256 block × BlockWithin block × (packet_in block ≡ None)
 

@@ -2,6 +2,7 @@
 use Rattle.std.specs.Prelude.{◌≡◌, ℕ, zero, suc, ◌*◌, ◌<◌, ◌≤◌, Bool, List, [], ◌++◌, length, take, drop, Ok, Err, Result}
 use Rattle.codes.specs.Symbols.{bit_number, differing}
 use Rattle.codes.specs.Mending.{Within}
+use Rattle.frames.specs.declared.fault.LostWord.{LostWord}
 
 -- the words of the first `count` messages
 unfoldable pub coded : (List Bool → List Bool) → (k count : ℕ) → List Bool → List Bool
@@ -32,12 +33,12 @@ module _ (word : List Bool → List Bool) (reach k n : ℕ) where
   WordLost i bits = (message : List Bool) (e : ℕ) → Within bit_number k word reach (part n i bits) message e → ⊥
 
   -- the messages within reach of so many words, or a word that has none
-  abbrev pub DataMended : ℕ → (bits messages : List Bool) → Result (Unit {0}) ℕ → Type 0
+  abbrev pub DataMended : ℕ → (bits messages : List Bool) → Result (Unit {0}) LostWord → Type 0
   DataMended count bits messages (Ok done) = WordsWithin count bits messages
-  DataMended count bits messages (Err i) = (i < count) × WordLost i bits
+  DataMended count bits messages (Err lost) = (lost.word < count) × WordLost lost.word bits
 
   -- messages whose words differ in no more places than the reach are mended as sent
-  abbrev pub DataAsSent : ℕ → (bits messages : List Bool) → Result (Unit {0}) ℕ → Type 0
+  abbrev pub DataAsSent : ℕ → (bits messages : List Bool) → Result (Unit {0}) LostWord → Type 0
   DataAsSent count bits messages answer =
       (sent : List Bool) → length sent ≡ count * k → ((i : ℕ) → i < count → wrong_bits n i (coded word k count sent) bits ≤ reach)
       → (answer ≡ Ok tt) × (messages ≡ sent)

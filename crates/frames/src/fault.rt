@@ -1,12 +1,18 @@
 // Why a frame cannot be read: the stream, and its own fault.
 ghost use Rattle.std.specs.Prelude.{◌≡◌};
 ghost use Rattle.frames.specs.Faults.{refusal_of};
-ghost use Rattle.frames.specs.declared.fault.FrameFault.TheVariants.{Packet};
+ghost use Rattle.frames.specs.declared.fault.FrameFault.TheVariants.{Data, Packet};
 
 use modem::StreamFault;
 use modes::Mis;
 use packets::BadPacket;
 use refusals::Refusal;
+
+// The number of a data word that is beyond reach.
+#[derive(Clone, Copy, PartialEq, Eq, Debug)]
+pub struct LostWord {
+    pub word: usize,
+}
 
 #[derive(Clone, Copy, PartialEq, Eq, Debug)]
 pub enum FrameFault {
@@ -15,9 +21,16 @@ pub enum FrameFault {
     OtherMode(Mis),
     Tis(StreamFault),
     OtherDataCoding,
-    // the data word
-    Data(usize),
+    Data(LostWord),
     Packet(BadPacket),
+}
+
+impl From<LostWord> for FrameFault {
+    ghost from_gives = { λ e r. r ≡ Data e };
+
+    fn from(e: LostWord) -> FrameFault {
+        FrameFault::Data(e)
+    }
 }
 
 impl From<BadPacket> for FrameFault {
@@ -40,7 +53,7 @@ impl From<FrameFault> for Refusal {
             FrameFault::Tis(StreamFault::Reach(_)) => Refusal::TisBeyondReach,
             FrameFault::Tis(StreamFault::Record(_)) => Refusal::BadTis,
             FrameFault::OtherDataCoding => Refusal::OtherDataCoding,
-            FrameFault::Data(word) => Refusal::DataBeyondReach(word),
+            FrameFault::Data(lost) => Refusal::DataBeyondReach(lost.word),
             FrameFault::Packet(_) => Refusal::BadPacket,
         }
     }

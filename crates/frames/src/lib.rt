@@ -10,6 +10,6 @@ mod words;
 mod writing;
 
 pub use channel::Channel;
-pub use fault::FrameFault;
+pub use fault::{FrameFault, LostWord};
 pub use reading::{Heard, Mended};
 pub use received::ReceivedCells;

@@ -15,7 +15,7 @@ ghost use Rattle.frames.specs.Words.{DataAsSent, DataMended};
 ghost use Rattle.frames.specs.Tellings.{told};
 
 use crate::channel::Channel;
-use crate::fault::FrameFault;
+use crate::fault::{FrameFault, LostWord};
 use crate::received::ReceivedCells;
 use crate::words::mend_words;
 use crate::writing::{MOST_DATA_CELLS, MOST_MESSAGE_BITS, MOST_WORD_BITS, order_of};
@@ -137,13 +137,13 @@ impl<
         modulation.decide_bits(cells, words);
     }
 
-    // Mends the messages of the data words, or answers the number of the first word that is beyond reach.
+    // Mends the messages of the data words, or answers the first one that is beyond reach.
     fn mend_data<D: MendingCode<Symbol = bool>>(
         &self,
         layout: &Layout<'_, D>,
         received: ReceivedCells<'_>,
         messages: &mut [bool],
-    ) -> Result<(), usize>
+    ) -> Result<(), LostWord>
         requires plan { received.plan.now ≡ layout.now.plan.now }
         requires room { length messages.old ≡ words_of layout.now.mode * D.SendingCode.message_length layout.now.code.now }
         ensures size { length messages.new ≡ length messages.old }
@@ -171,9 +171,7 @@ impl<
     {
         let mut bits = [false; MOST_MESSAGE_BITS];
         let messages = &mut bits[..8 * block.len()];
-        if let Err(word) = self.mend_data(layout, received, messages) {
-            return Err(FrameFault::Data(word));
-        }
+        self.mend_data(layout, received, messages)?;
         scramble(messages);
         cut::<8>(messages, block);
         Ok(())

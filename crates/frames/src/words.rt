@@ -2,6 +2,7 @@
 ghost use Rattle.std.specs.Prelude.{◌≡◌, ◌+◌, ◌-◌, ◌*◌, ◌<◌, ◌≤◌, length};
 ghost use Rattle.frames.specs.Words.{coded, DataMended};
 
+use crate::fault::LostWord;
 use codes::words::{MendingCode, SendingCode};
 
 // Writes the words of so many messages.
@@ -24,13 +25,13 @@ pub(crate) fn encode_words<D: SendingCode<Symbol = bool>>(
     encode_words(code, count - 1, more, rest);
 }
 
-// Mends the messages of so many words, or answers the number of the first one that is beyond reach.
+// Mends the messages of so many words, or answers the first one that is beyond reach.
 pub(crate) fn mend_words<D: MendingCode<Symbol = bool>>(
     code: &D,
     count: usize,
     words: &[bool],
     messages: &mut [bool],
-) -> Result<(), usize>
+) -> Result<(), LostWord>
     requires words { length words.now ≡ count * D.SendingCode.word_length code.now }
     requires messages { length messages.old ≡ count * D.SendingCode.message_length code.now }
     ensures size { length messages.new ≡ length messages.old }
@@ -39,13 +40,10 @@ pub(crate) fn mend_words<D: MendingCode<Symbol = bool>>(
     if count == 0 {
         return Ok(());
     }
-    let (word, rest) = words.split_at(code.word_length());
-    let (message, more) = messages.split_at_mut(code.message_length());
-    let Ok(_) = code.mend(word, message) else {
-        return Err(0);
-    };
-    match mend_words(code, count - 1, rest, more) {
-        Ok(()) => Ok(()),
-        Err(word) => Err(word + 1),
-    }
+    let (before, word) = words.split_at(words.len() - code.word_length());
+    let (earlier, message) = messages.split_at_mut(messages.len() - code.message_length());
+    mend_words(code, count - 1, before, earlier)?;
+    code.mend(word, message)
+        .map_err(|_| LostWord { word: count - 1 })?;
+    Ok(())
 }
