@@ -5,4 +5,5 @@ pub mod SenderRuns
 pub mod Places
 pub mod Takes
 pub mod Runs
+pub mod TwoPieces
 pub mod Shows

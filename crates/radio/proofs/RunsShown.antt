@@ -1,10 +1,7 @@
 -- A run that is reported complete: a message in two pieces is loaded, sent and taken.
-use Rattle.std.proofs.Common.{◌≡◌, ℕ, suc, ◌+◌, ◌-◌, ◌*◌, ◌%◌, ◌<◌, Bool, true, false, cond, eqb, ltb, List, [], ◌∷◌, length, get_or, replicate, ℤ, Some, None, Ok, Err, Result, sym, refl, ap, ◌∙◌, subst, inl, inr, ⊎_elim, lit<, lit≤, mod-lt, arith}
-use native.Mathlib.Nat.{div-eq_of_lt-le}
-use Rattle.std.proofs.lemmas.List.{length-replicate}
-use Rattle.std.proofs.lemmas.Bool.{cases_eq, eq-eqb, le-ltb, ne_eqb}
+use Rattle.std.proofs.Common.{◌≡◌, ℕ, suc, ◌+◌, ◌-◌, ◌*◌, ◌<◌, Bool, true, List, [], ◌∷◌, length, ℤ, Some, None, Ok, Result, sym, refl, ap, ◌∙◌, subst, inl, lit<, lit≤, mod-lt, arith}
+use Rattle.std.proofs.lemmas.Bool.{eq-eqb}
 use Rattle.refusals.specs.declared.Refusal.{Refusal}
-use Rattle.refusals.specs.declared.Refusal.TheVariants.{Misplaced, MessageLength, TooManyPieces}
 use Rattle.codes.specs.SymbolsLemmas.{differing_self}
 use Rattle.codes.specs.Symbols.{bit_number}
 use Rattle.bits.proofs.ByteLaws.{below-drop, below-replicate, below-take}
@@ -18,16 +15,15 @@ use Rattle.lineup.specs.Layouts.{Roomy, block_length_of}
 use Rattle.lineup.specs.declared.kind.CellKind.{CellKind}
 use Rattle.lineup.specs.declared.kind.CellKind.TheVariants.{Mis, Tis, Data}
 use Rattle.lineup.specs.declared.mode.Mode.{Mode}
-use Rattle.messages.specs.CollectorCalls.{CollectorState, Placed-in, Standing, Taken-as, Taking, again, begun, completes, had, misplaced, more, new, new_collector, placed, same, standing}
-use Rattle.messages.specs.Histories.{Before, Due, In, Sent, Took}
+use Rattle.messages.specs.CollectorCalls.{CollectorState, new_collector}
+use Rattle.messages.specs.Histories.{Due, Took}
 use Rattle.messages.specs.Packets.{packet_of}
 use Rattle.messages.specs.Pieces.{piece_count, piece_length_of}
-use Rattle.messages.specs.Promise.{Brought, LastOutstanding, brings}
-use Rattle.messages.specs.SenderCalls.{SenderState, advanced, is_loaded, load_refusal, loaded, new_sender, next_packet}
-use Rattle.messages.specs.declared.content.Placing.{Placing}
-use Rattle.messages.specs.declared.content.Placing.TheVariants.{Complete, Had, Placed, Repeat}
-use Rattle.messages.specs.declared.states.Progress.TheVariants.{Idle}
+use Rattle.messages.specs.Promise.{LastOutstanding}
+use Rattle.messages.specs.SenderCalls.{SenderState, advanced, is_loaded, loaded, new_sender, next_packet}
+use Rattle.messages.specs.declared.content.Placing.TheVariants.{Complete}
 use Rattle.messages.proofs.Cutting.{length-piece, starts_within}
+use Rattle.messages.proofs.TwoPieces.{collects, due_first, due_second, long_message, may_load, in_two_pieces, long_size, second_is_last}
 use Rattle.modes.specs.declared.station.Station.{Station}
 use Rattle.packets.specs.Packets.{Content, Fits}
 use Rattle.radio.specs.ExciterCalls.{ExciterState, Loads, Sends, new_exciter, send_refusal}
@@ -39,21 +35,6 @@ use Rattle.radio.specs.declared.answer.Taken.{Taken}
 use Rattle.radio.proofs.Reached.{Apart, reads_near, stating}
 use Rattle.radio.proofs.RunsLift.{cells_back}
 
--- a collector answers every packet
-module _ (c : CollectorState) (p : Content) where
-  placing : (o : CollectorState) (b : Bool) → (u : CollectorState) × (r : Result Placing Refusal) × Placed-in b o c u p r
-  placing o true = (c, Err Misplaced, (refl, refl))
-  placing o false = (placed o p, Ok (cond (completes o p) Complete Placed), (refl, refl))
-
-  by_standing : (st : Standing) → (u : CollectorState) × (r : Result Placing Refusal) × Taken-as st c u p r
-  by_standing new = placing (begun c p.toggle) (misplaced c.piece_length (begun c p.toggle).there (begun c p.toggle).last p)
-  by_standing more = placing c (misplaced c.piece_length c.there c.last p)
-  by_standing had = (c, Ok Had, (refl, refl))
-  by_standing again = (c, Ok Repeat, (refl, refl))
-
-  collects : (u : CollectorState) × (r : Result Placing Refusal) × Taking c u p r
-  collects = by_standing (standing c.phase (same p.toggle c.toggle) (get_or c.there p.id false))
-
 length-laid : (plan : List CellKind) (m t d : List Cell) → length (laid plan m t d) ≡ length plan
 unfolding laid
 length-laid [] m t d = refl
@@ -62,9 +43,6 @@ length-laid (kind ∷ plan) m t d = ap suc (length-laid plan (left Mis kind m) (
 length-numbers : (cells : List Cell) → length (numbers_of cells) ≡ 2 * length cells
 length-numbers [] = refl
 length-numbers (x ∷ xs) = omega (arith, length-numbers xs)
-
-passes : (a b c : Bool) (x y z : Refusal) → a ≡ false → b ≡ false → c ≡ false → cond a (Some x) (cond b (Some y) (cond c (Some z) None)) ≡ None
-passes a b c x y z e f g = rw (e, f, g) refl
 
 -- a station record
 abbrev first_station : Station
@@ -136,15 +114,11 @@ module _ (l : Line) (ear : Mending) (mode : Mode) (has_mode : l.mode ≡ Some mo
   abbrev d : ℕ
   d = piece_length_of (l.block - 6)
 
-  -- one byte more than a piece has
   abbrev message : List ℕ
-  message = replicate (d + 1) 7
-
-  size : length message ≡ d + 1
-  size = length-replicate (d + 1) 7
+  message = long_message (l.block - 6)
 
   pieces : piece_count d (length message) ≡ 2
-  pieces = div-eq_of_lt-le d (omega (arith, size)) (omega (arith, size))
+  pieces = in_two_pieces (l.block - 6)
 
   -- each of its packets fits
   fits_piece : (toggle : Bool) (i : ℕ) → i < piece_count d (length message) → Fits l.block (packet_of d message toggle i)
@@ -152,6 +126,7 @@ module _ (l : Line) (ear : Mending) (mode : Mode) (has_mode : l.mode ≡ Some mo
       let least = roomy.least in
       let most = roomy.most in
       let long = length-piece d i message in
+      let sized = long_size (l.block - 6) in
       let starts = starts_within d (omega arith) (length message) i h in
       record {
         least = omega (arith, blocks);
@@ -171,14 +146,8 @@ module _ (l : Line) (ear : Mending) (mode : Mode) (has_mode : l.mode ≡ Some mo
   abbrev s₂ : SenderState
   s₂ = advanced s₁
 
-  may_load : load_refusal Idle d (length message) ≡ None
-  may_load =
-      passes (eqb (length message) 0) (ltb 16384 (length message)) (ltb 1024 (piece_count d (length message))) MessageLength MessageLength TooManyPieces
-      (ne_eqb (length message) 0 (λ e. omega (arith, size))) (le-ltb 16384 (length message) (omega (arith, size)))
-      (le-ltb 1024 (piece_count d (length message)) (omega (arith, pieces)))
-
   loads : Loads (sender s₀) (sender s₁) message (Ok tt)
-  loads = (rw has_mode may_load, refl)
+  loads = (rw has_mode (may_load (l.block - 6)), refl)
 
   abbrev p₀ : Content
   p₀ = next_packet s₁
@@ -218,9 +187,6 @@ module _ (l : Line) (ear : Mending) (mode : Mode) (has_mode : l.mode ≡ Some mo
     run₂ : RadioRun e₀ r₀ (sender s₂) r₀ h₂
     run₂ = send run₁ (numbers p₀) (numbers p₀) (sender s₂) (sends s₁ refl fits₀)
 
-    due₀ : Due (f₀.sent ∷ []) [] f₀.sent
-    due₀ = record { was_sent = inl refl; later = λ t i. absurd i; none_missed = λ t g i. absurd i }
-
     abbrev c₁ : CollectorState
     c₁ = (takes c₀ p₀ fits₀).0
 
@@ -234,7 +200,7 @@ module _ (l : Line) (ear : Mending) (mode : Mode) (has_mode : l.mode ≡ Some mo
     h₃ = with_take h₂ f₀ a₀
 
     run₃ : RadioRun e₀ r₀ (sender s₂) (receiver c₁) h₃
-    run₃ = take_sent run₂ f₀ (inl refl, due₀) (numbers p₀) (near c₀ f₀ p₀ refl) (receiver c₁) a₀ (takes c₀ p₀ fits₀).2
+    run₃ = take_sent run₂ f₀ (inl refl, due_first f₀.sent) (numbers p₀) (near c₀ f₀ p₀ refl) (receiver c₁) a₀ (takes c₀ p₀ fits₀).2
 
     abbrev f₁ : Aired
     f₁ = record { sent = next_sent h₃.packets p₁; station = first_station; cells = cells_in (numbers p₁) }
@@ -245,32 +211,11 @@ module _ (l : Line) (ear : Mending) (mode : Mode) (has_mode : l.mode ≡ Some mo
     run₄ : RadioRun e₀ r₀ (sender (advanced s₂)) (receiver c₁) h₄
     run₄ = send run₃ (numbers p₁) (numbers p₁) (sender (advanced s₂)) (sends s₂ refl fits₁)
 
-    later₁ : (t : Took) → In t (t₀ ∷ []) → Before t.what f₁.sent
-    later₁ t (inl e) = subst (λ x. Before x.what f₁.sent) e (inr (refl, omega arith))
-    later₁ t (inr i) = absurd i
-
-    missed₁ : (t : Took) (g : Sent) → In t (t₀ ∷ []) → t.what.number < g.number → g.number < 1 → ⊥
-    missed₁ t g (inl e) a b = let k : ◌≡◌ {A = ℕ} 1 t.what.number = ap (λ x. x.what.number) e in omega arith
-    missed₁ t g (inr i) a b = i
-
     due₁ : Due (f₁.sent ∷ f₀.sent ∷ []) (t₀ ∷ []) f₁.sent
-    due₁ = record { was_sent = inl refl; later = later₁; none_missed = λ t g i j a b. absurd (missed₁ t g i a b) }
-
-    brings₀ : brings d f₀.sent ≡ 0
-    brings₀ = ap (λ c. 0 % c) pieces
-
-    brings₁ : brings d f₁.sent ≡ 1
-    brings₁ = ap (λ c. 1 % c) pieces
-
-    not_both : Brought d (t₀ ∷ []) 1 (brings d f₁.sent) → ⊥
-    not_both (inl q) = omega (arith, q.1, brings₀, brings₁)
-    not_both (inr i) = i
+    due₁ = due_second f₀.sent f₁.sent refl refl refl t₀.answer
 
     last₁ : LastOutstanding d (t₀ ∷ []) f₁.sent
-    last₁ = record {
-      outstanding = not_both;
-      others = λ i h. ⊎_elim (λ e. inl (brings₁ ∙ sym e)) (λ ne. inr (inl (refl, brings₀ ∙ (omega (arith, pieces))))) (cases_eq i 1);
-    }
+    last₁ = second_is_last f₀.sent f₁.sent refl refl refl t₀.answer d pieces pieces
 
     abbrev c₂ : CollectorState
     c₂ = (takes c₁ p₁ fits₁).0

@@ -1,6 +1,6 @@
-use Rattle.std.proofs.Common.{◌≡◌, ◌+◌, ◌-◌, ◌*◌, ◌<◌, ◌≤◌, true, min, length, vec_items, ◌∙◌, arith, rules}
-use Rattle.messages.specs.Pieces.{piece, piece_count}
-use Rattle.messages.specs.SenderCalls.{is_loaded, next_piece, reached}
+use Rattle.std.proofs.Common.{◌≡◌, ◌-◌, ◌*◌, ◌<◌, true, min, length, vec_items, arith, rules}
+use Rattle.messages.specs.Pieces.{piece_count}
+use Rattle.messages.specs.SenderCalls.{is_loaded, next_piece}
 use Rattle.messages.proofs.Cutting.{length-piece, next_reached, starts_within}
 use Rattle.messages.proofs.sending.Sender.next.Goals as goal
 
