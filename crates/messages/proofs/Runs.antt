@@ -1,14 +1,14 @@
 -- The promise: what is known of the two states after every history.
-use Rattle.std.proofs.Common.{◌≡◌, ℕ, ◌≤◌, List, [], ◌∷◌, length, take, drop, sym, refl, ap, ◌∙◌, subst, inl, inr, ⊎_elim, arith}
+use Rattle.std.proofs.Common.{◌≡◌, ℕ, ◌≤◌, true, List, [], ◌∷◌, ◌++◌, length, take, drop, sym, refl, ap, ◌∙◌, subst, inl, inr, ⊎_elim, arith}
 use Rattle.std.proofs.lemmas.List.{take_at, length-replicate}
 use Rattle.messages.specs.declared.content.NextPacket.{NextPacket}
 use Rattle.messages.specs.declared.states.Phase.TheVariants.{Empty}
 use Rattle.messages.specs.declared.states.Progress.TheVariants.{Idle}
 use Rattle.packets.specs.Packets.{Content, content_of}
-use Rattle.messages.specs.SenderCalls.{SenderState, Carries, new_sender, next_packet}
+use Rattle.messages.specs.SenderCalls.{SenderState, Carries, advanced, is_loaded, new_sender, next_packet}
 use Rattle.messages.specs.CollectorCalls.{CollectorState, new_collector}
 use Rattle.messages.specs.Pieces.{piece_length_of}
-use Rattle.messages.specs.Histories.{Sent, Took, History, In, Due, Run, start, load, load_refused, next, next_refused, clear, clear_refused, take_sent, take_refused, fetch}
+use Rattle.messages.specs.Histories.{Sent, Took, History, In, Due, Run, after_next, start, load, load_refused, next, next_refused, clear, clear_refused, take_sent, take_refused, fetch}
 use Rattle.messages.specs.Promise.{Promise}
 use Rattle.messages.proofs.Sends.{Chain}
 use Rattle.messages.proofs.SenderRuns.{SenderOk, start_ok, load_ok, next_ok, clear_ok, same_ok}
@@ -47,6 +47,20 @@ packet_read : (p : Content) (xs ys : List ℕ) (r : NextPacket) → Carries p xs
 packet_read p xs ys r q =
     let e : take r.length ys ≡ p.bytes = ap (take r.length) q.2 ∙ take_at p.bytes (drop r.length xs) r.length (sym q.1) in
     ap (content_of r.header) e ∙ q.0
+
+-- that answer, and the bytes that it leaves where there were none
+abbrev carrying : Content → NextPacket
+carrying p = record { header = record { toggle = p.toggle; last = p.last; id = p.id }; length = length p.bytes }
+
+abbrev behind : Content → List ℕ
+behind p = p.bytes ++ drop (length p.bytes) []
+
+-- a history goes on by the packet that comes next
+pub next_run : {s₀ : SenderState} {c₀ : CollectorState} {s : SenderState} {c : CollectorState} {h : History} → Run s₀ c₀ s c h → is_loaded s.progress ≡ true → Run s₀ c₀ (advanced s) c (after_next h (next_packet s))
+next_run {s₀} {c₀} {s} {c} {h} run loads =
+    let p = next_packet s in
+    subst (λ x. Run s₀ c₀ (advanced s) c (after_next h x)) (packet_read p [] (behind p) (carrying p) (refl, refl, refl))
+    (next run [] (behind p) (advanced s) (carrying p) (loads, (refl, refl, refl), refl))
 
 module _ (d : ℕ) (s₀ : SenderState) (c₀ : CollectorState) (some : 1 ≤ d) (begins : Good d s₀ c₀ (record { loads = 0; message = []; sends = 0; sent = []; taken = [] })) where
   pub good : {s : SenderState} {c : CollectorState} {h : History} → Run s₀ c₀ s c h → Good d s c h

@@ -1,18 +1,13 @@
 -- A history that is reported complete: a message in two pieces is loaded, sent and taken.
-use Rattle.std.proofs.Common.{◌≡◌, ℕ, List, [], ◌∷◌, ◌++◌, length, take, drop, Ok, sym, refl, subst, inl}
-use Rattle.messages.specs.declared.content.NextPacket.{NextPacket}
+use Rattle.std.proofs.Common.{◌≡◌, ℕ, List, [], ◌∷◌, Ok, sym, refl, subst, inl}
 use Rattle.messages.specs.declared.content.Placing.TheVariants.{Complete}
 use Rattle.messages.specs.Pieces.{piece_length_of}
-use Rattle.packets.specs.Packets.{Content, content_of}
 use Rattle.messages.specs.SenderCalls.{SenderState, new_sender, loaded, next_packet, advanced}
 use Rattle.messages.specs.CollectorCalls.{CollectorState}
-use Rattle.messages.specs.Histories.{Sent, Took, History, Due, Run, start, load, next, take_sent, nothing, after_load, after_next, after_take}
+use Rattle.messages.specs.Histories.{Sent, Took, History, Due, Run, start, load, take_sent, nothing, after_load, after_next, after_take}
 use Rattle.messages.specs.Promise.{Promise, Shown}
+use Rattle.messages.proofs.Runs.{next_run}
 use Rattle.messages.proofs.TwoPieces.{collects, due_first, due_second, in_two_pieces, long_message, may_load, second_is_last}
-
--- what next answers where it carries p
-abbrev carrying : Content → NextPacket
-carrying p = record { header = record { toggle = p.toggle; last = p.last; id = p.id }; length = length p.bytes }
 
 module _ (n : ℕ) (c₀ : CollectorState) (promise : Promise (piece_length_of n) (new_sender n) c₀) where
   abbrev d : ℕ
@@ -30,17 +25,11 @@ module _ (n : ℕ) (c₀ : CollectorState) (promise : Promise (piece_length_of n
   run₁ : Run (new_sender n) c₀ s₁ c₀ h₁
   run₁ = load start m s₁ (may_load n, refl)
 
-  -- the packet that next answers in the state s
-  abbrev answered : SenderState → Content
-  answered s = content_of (carrying (next_packet s)).header (take (length (next_packet s).bytes) ((next_packet s).bytes ++ drop (length (next_packet s).bytes) []))
-
   abbrev f₀ : Sent
-  f₀ = record { number = 1; place = 0; message = m; packet = answered s₁ }
+  f₀ = record { number = 1; place = 0; message = m; packet = next_packet s₁ }
 
-  run₂ : Run (new_sender n) c₀ (advanced s₁) c₀ (after_next h₁ (answered s₁))
-  run₂ =
-      next run₁ [] ((next_packet s₁).bytes ++ drop (length (next_packet s₁).bytes) []) (advanced s₁) (carrying (next_packet s₁))
-      (refl, (refl, refl, refl), refl)
+  run₂ : Run (new_sender n) c₀ (advanced s₁) c₀ (after_next h₁ (next_packet s₁))
+  run₂ = next_run run₁ refl
 
   abbrev c₁ : CollectorState
   c₁ = (collects c₀ f₀.packet).0
@@ -49,7 +38,7 @@ module _ (n : ℕ) (c₀ : CollectorState) (promise : Promise (piece_length_of n
   t₀ = record { what = f₀; answer = (collects c₀ f₀.packet).1 }
 
   abbrev h₃ : History
-  h₃ = after_take (after_next h₁ (answered s₁)) f₀ t₀.answer
+  h₃ = after_take (after_next h₁ (next_packet s₁)) f₀ t₀.answer
 
   run₃ : Run (new_sender n) c₀ (advanced s₁) c₁ h₃
   run₃ = take_sent run₂ f₀ (due_first f₀) c₁ t₀.answer (collects c₀ f₀.packet).2
@@ -58,15 +47,13 @@ module _ (n : ℕ) (c₀ : CollectorState) (promise : Promise (piece_length_of n
   s₂ = advanced s₁
 
   abbrev h₄ : History
-  h₄ = after_next h₃ (answered s₂)
+  h₄ = after_next h₃ (next_packet s₂)
 
   run₄ : Run (new_sender n) c₀ (advanced s₂) c₁ h₄
-  run₄ =
-      next run₃ [] ((next_packet s₂).bytes ++ drop (length (next_packet s₂).bytes) []) (advanced s₂) (carrying (next_packet s₂))
-      (refl, (refl, refl, refl), refl)
+  run₄ = next_run run₃ refl
 
   abbrev f₁ : Sent
-  f₁ = record { number = 1; place = 1; message = m; packet = answered s₂ }
+  f₁ = record { number = 1; place = 1; message = m; packet = next_packet s₂ }
 
   due₁ : Due (f₁ ∷ f₀ ∷ []) (t₀ ∷ []) f₁
   due₁ = due_second f₀ f₁ refl refl refl t₀.answer

@@ -1,6 +1,5 @@
 -- A run of frames is a run of packets: cells within reach of a sent frame bring that frame's packet.
-use Rattle.std.proofs.Common.{◌≡◌, ℕ, ◌⊎◌, Bool, true, false, List, [], ◌∷◌, ◌++◌, length, take, drop, map, ℤ, Some, None, Ok, Err, Option, Result, sym, refl, ap, ◌∙◌, subst, inl, inr}
-use Rattle.std.proofs.lemmas.List.{take_at}
+use Rattle.std.proofs.Common.{◌≡◌, ℕ, ◌⊎◌, Bool, true, false, List, [], ◌∷◌, length, map, ℤ, Some, None, Ok, Err, Option, Result, sym, refl, ap, ◌∙◌, subst, inl, inr}
 use Rattle.refusals.specs.declared.Refusal.{Refusal}
 use Rattle.cells.specs.declared.cell.Cell.{Cell}
 use Rattle.frames.specs.Frames.{frame_of}
@@ -9,13 +8,13 @@ use Rattle.frames.specs.Reading.{Mending, Told, WithinReach, wrong_mis, wrong_ti
 use Rattle.frames.specs.declared.fault.FrameFault.{FrameFault}
 use Rattle.lineup.specs.Layouts.{block_length_of}
 use Rattle.lineup.specs.declared.mode.Mode.{Mode}
-use Rattle.messages.specs.CollectorCalls.{CollectorState, Taking}
-use Rattle.messages.specs.Histories.{History, In, Run, Sent, after_next, start as begin, load as load_message, next, clear as clear_message, clear_refused, take_sent as take_packet, take_refused as take_refused_packet}
-use Rattle.messages.specs.SenderCalls.{SenderState, advanced, is_loaded, load_refusal, loaded, next_packet}
-use Rattle.messages.specs.declared.content.NextPacket.{NextPacket}
+use Rattle.messages.specs.CollectorCalls.{Taking}
+use Rattle.messages.specs.Histories.{In, Run, Sent, start as begin, load as load_message, clear as clear_message, clear_refused, take_sent as take_packet, take_refused as take_refused_packet}
+use Rattle.messages.specs.SenderCalls.{SenderState, is_loaded, load_refusal, loaded, next_packet}
 use Rattle.messages.specs.declared.content.Placing.{Placing}
+use Rattle.messages.proofs.Runs.{next_run}
 use Rattle.modes.specs.declared.station.Station.{Station}
-use Rattle.packets.specs.Packets.{Content, Fits, content_of}
+use Rattle.packets.specs.Packets.{Content, Fits}
 use Rattle.radio.specs.ExciterCalls.{ExciterState, NextFrame, first_of_load, first_of_send}
 use Rattle.radio.specs.Lines.{Line, paired}
 use Rattle.radio.specs.Promise.{IsFrame}
@@ -120,16 +119,6 @@ module _ (r u : ReceiverState) (numbers : List ℤ) (x : Refusal) where
   refused_line None step = inl step.1
   refused_line (Some m) step = refused_slice _ m step
 
--- what next answers where it carries p, and that this is p
-abbrev carrying : Content → NextPacket
-carrying p = record { header = record { toggle = p.toggle; last = p.last; id = p.id }; length = length p.bytes }
-
-abbrev behind : Content → List ℕ
-behind p = p.bytes ++ drop (length p.bytes) []
-
-carried : (p : Content) → content_of (carrying p).header (take (length p.bytes) (behind p)) ≡ p
-carried p = ap (content_of (carrying p).header) (take_at p.bytes (drop (length p.bytes) []) (length p.bytes) refl)
-
 -- what is known of the line-ups and of the sent frames after a run, whatever else the calls change
 pub record Known (l : Line) (ear : Mending) (exciter receiver : Line) (hears : Mending) (sent : List Sent) (aired : List Aired) : Type 0 where
   pub exciter_line : exciter ≡ l
@@ -144,12 +133,6 @@ module _ (e₀ : ExciterState) (r₀ : ReceiverState) (l : Line) (ear : Mending)
   Lifted e r h =
       Run e₀.sender r₀.collector e.sender r.collector h.packets
       × Known l ear e.line r.line r.ear h.packets.sent h.aired
-
-  sent_run : (s : SenderState) (c : CollectorState) (h : History) → Run e₀.sender r₀.collector s c h → is_loaded s.progress ≡ true → Run e₀.sender r₀.collector (advanced s) c (after_next h (next_packet s))
-  sent_run s c h run loads =
-      let p = next_packet s in
-      subst (λ x. Run e₀.sender r₀.collector (advanced s) c (after_next h x)) (carried p)
-      (next run [] (behind p) (advanced s) (carrying p) (loads, (refl, refl, refl), refl))
 
   refused_run : (e : ExciterState) (r u : ReceiverState) (h : RadioHistory) → Lifted e r h → Refused r u → Lifted e u h
   refused_run e r u h g (inl q) = subst (λ x. Lifted e x h) (sym q) g
@@ -194,7 +177,7 @@ module _ (e₀ : ExciterState) (r₀ : ReceiverState) (l : Line) (ear : Mending)
         let g = lifted run in
         let loads = send_loaded e.line.mode (is_loaded e.sender.progress) e.station (paired e.line (length xs)) step.0 in
         subst (λ x. Lifted x r (with_send h (next_packet e.sender) step.1.station (cells_in ys))) (sym step.2)
-        (sent_run e.sender r.collector h.packets g.0 loads, sent_known e r.line r.ear h ys step.1 g.1)
+        (next_run g.0 loads, sent_known e r.line r.ear h ys step.1 g.1)
     lifted (send_refused {e} {r} {h} run xs ys t x step) = subst (λ y. Lifted y r h) (sym step.1) (lifted run)
     lifted (clear {e} {r} {h} run t (Ok done) step) =
         let g = lifted run in
