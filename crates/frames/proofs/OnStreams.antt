@@ -1,9 +1,7 @@
 -- What is decided of a stream's first cells is what is decided of all. Assumes nothing.
-use Rattle.std.proofs.Common.{◌≡◌, ℕ, ◌*◌, ◌/◌, ◌≤◌, Bool, List, [], ◌∷◌, ◌++◌, length, take, drop, Ok, Err, Result, refl, sym, ap, ◌∙◌, subst, mul-suc, mul-zero, length-append, ℤ, lit≤, arith}
+use Rattle.std.proofs.Common.{◌≡◌, ℕ, zero, suc, ◌+◌, ◌*◌, ◌/◌, ◌≤◌, Bool, List, [], ◌∷◌, ◌++◌, length, take, Ok, Err, Result, refl, sym, ap, ◌∙◌, subst, mul-suc, mul-zero, length-append, take-add, ℤ, lit≤, arith}
 use Rattle.std.proofs.lemmas.Int.{ints}
-use Rattle.std.proofs.lemmas.List.{take-append-le, length-take-le, take-append-drop}
-use Rattle.std.proofs.lemmas.Grind.{flat_map-append}
-use Rattle.std.proofs.Math.Seq.{take-append_seam}
+use Rattle.std.proofs.lemmas.List.{drop_at, length-take-le, take-take, take_all, take_at}
 use Rattle.codes.specs.Mending.{Within}
 use Rattle.codes.specs.Symbols.{differing, Below128}
 use Rattle.bits.specs.Bits.{cut}
@@ -41,21 +39,22 @@ module _ (decided : Cell → List Bool) (width : ℕ) (sized : (x : Cell) → le
   length-decided [] = rw mul-zero
   length-decided (x ∷ cells) = rw (length-append, sized, length-decided cells) (omega (arith, mul-suc width (length cells)))
 
-  -- symbols are cut from the first bits
-  cut_seam : (n : ℕ) (front back : List Bool) → n * 7 ≤ length front → cut 7 n (front ++ back) ≡ cut 7 n front
-  cut_seam n front back h =
-      sym (cut_front 7 n (length front) (front ++ back) h) ∙ ap (cut 7 n) (take-append_seam front back)
+  -- what is decided of the first cells is what comes first of what is decided
+  pub decided_front : (c : ℕ) (xs : List Cell) → take (width * c) (decided_bits decided xs) ≡ decided_bits decided (take c xs)
+  decided_front zero xs = rw (mul-zero width) refl
+  decided_front (suc c) [] = take_all (width * suc c) [] (omega arith)
+  decided_front (suc c) (x ∷ xs) =
+      let more : width * suc c ≡ width + width * c = omega (arith, mul-suc width c) in
+      let rest = decided_bits decided xs in
+      rw (more, take-add width (width * c) (decided x ++ rest), take_at (decided x) rest width (sized x), drop_at (decided x) rest width (sized x), decided_front c xs) refl
 
-  -- the first `count` cells, whatever stands behind them
-  pub symbols_front : (n count : ℕ) (xs ys : List Cell) → n * 7 ≤ width * count → count ≤ length xs → symbols_of decided n (take count xs ++ ys) ≡ symbols_of decided n xs
-  symbols_front n count xs ys room few =
-      let front = decided_bits decided (take count xs) in
-      let long : n * 7 ≤ length front = rw (length-decided (take count xs), length-take-le count xs few) room in
-      let one : symbols_of decided n (take count xs ++ ys) ≡ cut 7 n front =
-      ap (cut 7 n) (flat_map-append decided (take count xs) ys) ∙ cut_seam n front (decided_bits decided ys) long in
-      let other : symbols_of decided n xs ≡ cut 7 n front =
-      ap (λ l. symbols_of decided n l) (sym (take-append-drop count xs)) ∙ ap (cut 7 n) (flat_map-append decided (take count xs) (drop count xs)) ∙ cut_seam n front (decided_bits decided (drop count xs)) long in
-      one ∙ sym other
+  pub same_bits : (c : ℕ) (xs ys : List Cell) → take c xs ≡ take c ys → take (width * c) (decided_bits decided xs) ≡ take (width * c) (decided_bits decided ys)
+  same_bits c xs ys e = decided_front c xs ∙ ap (decided_bits decided) e ∙ sym (decided_front c ys)
+
+  -- cells that begin with the same cells, enough for the symbols, are decided for the same symbols
+  pub same_symbols : (n c : ℕ) (xs ys : List Cell) → n * 7 ≤ width * c → take c xs ≡ take c ys → symbols_of decided n xs ≡ symbols_of decided n ys
+  same_symbols n c xs ys room e =
+      sym (cut_front 7 n (width * c) (decided_bits decided xs) room) ∙ ap (cut 7 n) (same_bits c xs ys e) ∙ cut_front 7 n (width * c) (decided_bits decided ys) room
 
   -- the cells of a kind that a plan's numbers begin with
   pub first_symbols : (n count : ℕ) (kind : CellKind) (plan : List CellKind) (numbers : List ℤ) (xs ys : List Cell) → length numbers ≡ 2 * length plan → n * 7 ≤ width * count → count ≤ kind_count kind plan →
@@ -63,16 +62,12 @@ module _ (decided : Cell → List Bool) (width : ℕ) (sized : (x : Cell) → le
   first_symbols n count kind plan numbers xs ys size room few e =
       let all = picked kind plan (cells_in numbers) in
       let long = length_picked kind plan (cells_in numbers) (length_cells (length plan) numbers size) in
-      ap (symbols_of decided n) e ∙ symbols_front n count all ys room (omega arith)
+      ap (symbols_of decided n) e
+      ∙ same_symbols n count (take count all ++ ys) all room (take_at (take count all) ys count (length-take-le count all (omega arith)))
 
   -- as many bits as the first cells have
-  pub bits_front : (m count : ℕ) (xs : List Cell) → m ≤ width * count → count ≤ length xs → take m (decided_bits decided (take count xs)) ≡ take m (decided_bits decided xs)
-  bits_front m count xs room few =
-      let front = decided_bits decided (take count xs) in
-      let long : m ≤ length front = rw (length-decided (take count xs), length-take-le count xs few) room in
-      let all : decided_bits decided xs ≡ front ++ decided_bits decided (drop count xs) =
-      ap (decided_bits decided) (sym (take-append-drop count xs)) ∙ flat_map-append decided (take count xs) (drop count xs) in
-      sym (ap (take m) all ∙ take-append-le m front (decided_bits decided (drop count xs)) long)
+  pub bits_front : (m count : ℕ) (xs : List Cell) → m ≤ width * count → take m (decided_bits decided (take count xs)) ≡ take m (decided_bits decided xs)
+  bits_front m count xs room = ap (take m) (sym (decided_front count xs)) ∙ take-take m (width * count) (decided_bits decided xs) room
 
 -- an answer is about the symbols that are decided
 pub answer_of : (k n : ℕ) (word : List ℕ → List ℕ) (reach : ℕ) (decided : Cell → List Bool) {R : Type 0} (record_bits : R → List Bool) (read_bits : List Bool → Result R BadRecord) (xs ys : List Cell) (r : Result (Reading R) StreamFault) →

@@ -1,8 +1,8 @@
 -- What is read of a frame that was sent: its streams' cells, symbols and bits. Assumes nothing.
-use Rattle.std.proofs.Common.{◌≡◌, ℕ, zero, suc, ◌+◌, ◌*◌, ◌/◌, ◌<◌, ◌≤◌, Bool, true, false, cond, List, [], ◌∷◌, ◌++◌, length, take, drop, refl, sym, ap, ◌∙◌, mul_assoc, mul_comm, mul-zero, mul-suc, suc-mul, zero-mul, take-add, arith}
-use Rattle.std.proofs.lemmas.List.{drop_at, drop-drop, drop-take, length-append, length-drop, length-take-le, take_all, take_at, take-take}
+use Rattle.std.proofs.Common.{◌≡◌, ℕ, zero, suc, ◌+◌, ◌*◌, ◌/◌, ◌<◌, ◌≤◌, Bool, true, false, cond, List, [], ◌∷◌, ◌++◌, length, take, drop, refl, sym, ap, ◌∙◌, mul_assoc, mul_comm, mul-zero, mul-suc, suc-mul, zero-mul, arith}
+use Rattle.std.proofs.lemmas.List.{drop_at, drop-drop, drop-take, length-append, length-drop, length-take-le, take_at, take-take}
 use Rattle.codes.specs.Symbols.{Below128}
-use Rattle.bits.specs.Bits.{cut, spread}
+use Rattle.bits.specs.Bits.{spread}
 use Rattle.bits.specs.Scrambling.{scrambled}
 use Rattle.bits.proofs.Bits.{cut-below_128, length-spread, length_cut}
 use Rattle.bits.proofs.Sequences.{length-scrambled}
@@ -25,13 +25,12 @@ use Rattle.modes.specs.declared.station.Station.{Station}
 use Rattle.modem.specs.Carrying.{symbols_of}
 use Rattle.modem.specs.MisStream.{mis_cells, mis_message}
 use Rattle.modem.specs.TisStream.{tis_cells, tis_message, tis_order}
-use Rattle.modem.proofs.Carries.{cut_front}
 use Rattle.frames.specs.Frames.{Sending, block_frame, data_bits, data_cells, data_order}
 use Rattle.frames.specs.Laying.{cell_for, first, laid, left, of_kind, picked}
 use Rattle.frames.specs.Reading.{Mending, data_stream, mis_symbols, tis_symbols}
 use Rattle.frames.specs.Words.{coded, part}
 use Rattle.frames.proofs.OnPlans.{counted, is_counted}
-use Rattle.frames.proofs.OnStreams.{sent_symbols, still, tis_more_room, tis_room, word_bits}
+use Rattle.frames.proofs.OnStreams.{same_bits, same_symbols, sent_symbols, still, tis_more_room, tis_room, word_bits}
 
 -- the first n cells of a stream, (0, 0) where none is left
 pub padded : ℕ → List Cell → List Cell
@@ -89,24 +88,6 @@ padded_front zero n xs h k = refl
 padded_front (suc c) zero xs h k = absurd (omega arith)
 padded_front (suc c) (suc n) [] h k = absurd (omega arith)
 padded_front (suc c) (suc n) (x ∷ xs) h k = ap (λ l. x ∷ l) (padded_front c n xs (omega arith) (omega arith))
-
--- what is decided of the first cells is what comes first of what is decided
-module _ (decided : Cell → List Bool) (w : ℕ) (sized : (x : Cell) → length (decided x) ≡ w) where
-  pub decided_front : (c : ℕ) (xs : List Cell) → take (w * c) (decided_bits decided xs) ≡ decided_bits decided (take c xs)
-  decided_front zero xs = rw (mul-zero w) refl
-  decided_front (suc c) [] = take_all (w * suc c) [] (omega arith)
-  decided_front (suc c) (x ∷ xs) =
-      let more : w * suc c ≡ w + w * c = omega (arith, mul-suc w c) in
-      let rest = decided_bits decided xs in
-      rw (more, take-add w (w * c) (decided x ++ rest), take_at (decided x) rest w (sized x), drop_at (decided x) rest w (sized x), decided_front c xs) refl
-
-  pub same_bits : (c : ℕ) (xs ys : List Cell) → take c xs ≡ take c ys → take (w * c) (decided_bits decided xs) ≡ take (w * c) (decided_bits decided ys)
-  same_bits c xs ys e = decided_front c xs ∙ ap (decided_bits decided) e ∙ sym (decided_front c ys)
-
-  -- cells that begin with the same cells, enough for the symbols, are decided for the same symbols
-  pub same_symbols : (n c : ℕ) (xs ys : List Cell) → n * 7 ≤ w * c → take c xs ≡ take c ys → symbols_of decided n xs ≡ symbols_of decided n ys
-  same_symbols n c xs ys room e =
-      sym (cut_front 7 n (w * c) (decided_bits decided xs) room) ∙ ap (cut 7 n) (same_bits c xs ys e) ∙ cut_front 7 n (w * c) (decided_bits decided ys) room
 
 pub cells_mapped : (point : List Bool → Cell) (width count : ℕ) (bits : List Bool) → length (mapped point width count bits) ≡ count
 unfolding mapped

@@ -1,4 +1,4 @@
-use Rattle.std.proofs.Common.{◌≡◌, ◌*◌, ◌≤◌, ◌/◌, length, replicate, take, ap, ◌∙◌, arith, length-take}
+use Rattle.std.proofs.Common.{◌≡◌, ◌*◌, ◌/◌, length, replicate, take, ◌∙◌, arith, length-take}
 use lib.ListN.{length-replicate}
 use Rattle.cells.specs.Cells.{cell_bits}
 use Rattle.cells.specs.Mapping.{origin}
@@ -6,7 +6,6 @@ use Rattle.lineup.specs.declared.kind.CellKind.TheVariants.{Data as DataKind}
 use Rattle.lineup.specs.Layouts.{words_of}
 use Rattle.frames.specs.Frames.{data_order}
 use Rattle.frames.specs.Laying.{cells_in, picked}
-use Rattle.frames.proofs.OnPlans.{length_cells, length_picked}
 use Rattle.frames.proofs.OnStreams.{bits_front, words_fit}
 use Rattle.frames.proofs.channel.Channel.hear_words.Goals as goal
 
@@ -32,8 +31,7 @@ returns g c =
     let fit = words_fit mode.«data» n (n / 2) c.args.layout.now.roomy.pairs in
     let all = picked DataKind plan (cells_in numbers) in
     let decided = g.C.Constellation.decided points (data_order mode.«data») in
-    let enough : n / 2 ≤ length all = omega (arith, c.args.layout.now.roomy.«data», length_picked DataKind plan (cells_in numbers) (length_cells (length plan) numbers (omega (arith, ap length c.requires.plan)))) in
     let size : length (take c.data_cells.result (replicate 2560 origin)) ≡ n / 2 = rw (length-take, length-replicate) (omega arith) in
     let cells : c.gather.new.cells ≡ take (n / 2) all = rw (size, c.requires.plan) at c.gather.ensures in
     rw (c.order_of.ensures, c.mode.ensures, cells, c.requires.room) at c.decide_bits.ensures.value
-    ∙ bits_front decided (cell_bits (data_order mode.«data»)) (g.met.C.Constellation.sized points (data_order mode.«data»)) (words_of mode * n) (n / 2) all fit enough
+    ∙ bits_front decided (cell_bits (data_order mode.«data»)) (g.met.C.Constellation.sized points (data_order mode.«data»)) (words_of mode * n) (n / 2) all fit
