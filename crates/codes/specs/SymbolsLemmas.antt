@@ -1,8 +1,8 @@
 -- Laws of the places in which lists of symbols differ. Assumes nothing.
-use Rattle.std.specs.Prelude.{◌≡◌, ℕ, ◌+◌, ◌≤◌, Bool, cond, ◌⊎◌, List, [], ◌∷◌, length, ◌≢◌, refl}
-use Rattle.std.proofs.Common.{sym, ap, ap₂, ◌∙◌, inl, inr, ⊎_elim, arith}
+use Rattle.std.specs.Prelude.{◌≡◌, ℕ, ◌+◌, ◌≤◌, Bool, true, false, cond, ◌⊎◌, List, [], ◌∷◌, length, ◌≢◌, refl}
+use Rattle.std.proofs.Common.{sym, ap, ap₂, ◌∙◌, inl, inr, ⊎_elim, lit<, arith}
 use Rattle.std.proofs.lemmas.Bool.{eq-eqb, ne_eqb, cases_eq}
-use Rattle.codes.specs.Symbols.{apart, differing}
+use Rattle.codes.specs.Symbols.{Below128, apart, bit_number, differing}
 
 pub apart-same : (a b : ℕ) → a ≡ b → apart a b ≡ 0
 apart-same a b e = ap (λ (t : Bool). cond t 0 1) (eq-eqb a b e)
@@ -52,3 +52,26 @@ module _ {S : Type 0} (number : S → ℕ) where
   differing_through (x ∷ xs) (y ∷ ys) [] d e = absurd (omega arith)
   differing_through (x ∷ xs) (y ∷ ys) (z ∷ zs) d e =
       omega (arith, apart_through (number x) (number y) (number z), differing_through xs ys zs (omega arith) (omega arith))
+
+  -- lists that differ in no place are the same, where numbers tell symbols apart
+  pub same_from_none : ((a b : S) → number a ≡ number b → a ≡ b) → (xs ys : List S) → differing number xs ys ≡ 0 → xs ≡ ys
+  unfolding differing
+  same_from_none tell [] [] e = refl
+  same_from_none tell [] (y ∷ ys) e = absurd (omega arith)
+  same_from_none tell (x ∷ xs) [] e = absurd (omega arith)
+  same_from_none tell (x ∷ xs) (y ∷ ys) e =
+      ⊎_elim (λ s. ap₂ ◌∷◌ (tell x y s.0) (same_from_none tell xs ys (omega arith))) (λ f. absurd (omega (arith, f.1))) (apart_cases (number x) (number y))
+
+-- so do those of bits
+pub tell_bits : (a b : Bool) → bit_number a ≡ bit_number b → a ≡ b
+tell_bits true true e = refl
+tell_bits true false e = absurd (omega arith)
+tell_bits false true e = absurd (omega arith)
+tell_bits false false e = refl
+
+-- a bit's number is below 128
+pub below-bits : (bits : List Bool) → Below128 bit_number bits
+unfolding Below128
+below-bits [] = tt
+below-bits (true ∷ bits) = (lit< tt, below-bits bits)
+below-bits (false ∷ bits) = (lit< tt, below-bits bits)

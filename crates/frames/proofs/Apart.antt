@@ -1,7 +1,7 @@
 -- Frames that differ in few places state the same. Assumes nothing.
 use Rattle.std.proofs.Common.{◌≡◌, ℕ, ◌*◌, ◌<◌, ◌≤◌, Bool, List, length, take, Some, Ok, Result, refl, sym, ap, ◌∙◌, arith, lit≤}
 use Rattle.codes.specs.Symbols.{Below128, bit_number, differing}
-use Rattle.staircase.specs.Near.{below-bits}
+use Rattle.codes.specs.SymbolsLemmas.{below-bits}
 use Rattle.bits.specs.Bits.{spread}
 use Rattle.bits.specs.Scrambling.{scrambled}
 use Rattle.bits.proofs.Bits.{length-spread}

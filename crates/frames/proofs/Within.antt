@@ -3,7 +3,7 @@ use Rattle.std.proofs.Common.{◌≡◌, ℕ, zero, suc, ◌+◌, ◌*◌, ◌<�
 use Rattle.std.proofs.lemmas.List.{length-drop, length-take-le, nil_from_length, take-append-drop}
 use Rattle.codes.specs.Symbols.{Below128, bit_number, differing}
 use Rattle.codes.proofs.Mends.{one_within}
-use Rattle.staircase.specs.Near.{below-bits}
+use Rattle.codes.specs.SymbolsLemmas.{below-bits}
 use Rattle.frames.specs.Words.{WordWithin, WordsWithin, coded, part, wrong_bits}
 use Rattle.frames.proofs.Sent.{coded_part, part_first, part_next}
 

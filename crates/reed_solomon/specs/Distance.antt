@@ -4,7 +4,7 @@ use Rattle.std.specs.Prelude.{◌≡◌, ℕ, zero, suc, ◌+◌, ◌*◌, ◌<�
 use Rattle.std.proofs.Common.{sym, ap, ap₂, ◌∙◌, ⊎_elim, mul-suc, suc-ne-zero, le_refl, arith, length-take-le}
 use Rattle.std.proofs.Math.Nat.{suc_inj}
 use Rattle.codes.specs.Symbols.{Below128, apart, differing}
-use Rattle.codes.specs.SymbolsLemmas.{apart-same, apart_other, apart_cases, apart-le, differing_comm, differing-le, differing_through}
+use Rattle.codes.specs.SymbolsLemmas.{apart-same, apart_other, apart_cases, apart-le, differing_comm, differing-le, differing_through, same_from_none}
 use Rattle.reed_solomon.specs.Field.{raised}
 use Rattle.reed_solomon.specs.Words.{value_at, Roots, Symbols, IsWord, Generator, added, word_of}
 use Rattle.reed_solomon.specs.Powers.{xor_swap, xor_same, xor_none, xor_below, raised_lt, raised-xor, raised-zero, raised-add, raised_comm, raised_none, raised-apart}
@@ -32,14 +32,6 @@ differs-weight [] [] e = refl
 differs-weight [] (y ∷ ys) e = absurd (suc-ne-zero (length ys) (sym e))
 differs-weight (x ∷ xs) [] e = absurd (suc-ne-zero (length xs) e)
 differs-weight (x ∷ xs) (y ∷ ys) e = ap₂ ◌+◌ (sym (apart-xor x y)) (differs-weight xs ys (suc_inj e))
-
-pub differs_none : (xs ys : List ℕ) → differs xs ys ≡ 0 → xs ≡ ys
-unfolding differing
-differs_none [] [] e = refl
-differs_none [] (y ∷ ys) e = absurd (suc-ne-zero (length ys) e)
-differs_none (x ∷ xs) [] e = absurd (suc-ne-zero (length xs) e)
-differs_none (x ∷ xs) (y ∷ ys) e =
-    ⊎_elim (λ s. ap₂ ◌∷◌ s.0 (differs_none xs ys (omega arith))) (λ f. absurd (omega (arith, f.1))) (apart_cases x y)
 
 -- lists that begin alike differ behind that
 pub differs_front : (n : ℕ) (xs ys : List ℕ) → length xs ≡ length ys → n ≤ length xs → take n xs ≡ take n ys → differs xs ys + n ≤ length xs
@@ -190,7 +182,7 @@ word_of-message g m o n e =
 
 -- the distance of the code: words of different messages differ in more than r places
 pub word-distance : (r : ℕ) (g m o : List ℕ) → Generator r g → length m ≡ length o → length m + r ≤ 127 → Symbols m → Symbols o → differing (λ (x : ℕ). x) (word_of g m) (word_of g o) < r + 1 → m ≡ o
-word-distance zero g m o gen n b s t d = word_of-message g m o n (differs_none (word_of g m) (word_of g o) (omega arith))
+word-distance zero g m o gen n b s t d = word_of-message g m o n (same_from_none (λ (x : ℕ). x) (λ a b e. e) (word_of g m) (word_of g o) (omega arith))
 word-distance (suc r) g m o gen n b s t d =
     let p : IsWord (suc r) m (word_of g m) = word_is (suc r) g m gen (omega arith) s in
     let q : IsWord (suc r) o (word_of g o) = word_is (suc r) g o gen (omega arith) t in

@@ -2,10 +2,9 @@
 use Rattle.std.proofs.Common.{◌≡◌, ℕ, ◌+◌, ◌*◌, Bool, List, length, take, ℤ, sym, ap, ◌∙◌, add-mul, arith}
 use Rattle.std.proofs.lemmas.List.{length-take-le}
 use Rattle.codes.specs.Symbols.{bit_number, differing}
-use Rattle.codes.specs.SymbolsLemmas.{differing_self}
 use Rattle.codes.specs.Mending.{Within}
 use Rattle.staircase.specs.Staircase.{word_of, IsWord}
-use Rattle.staircase.specs.Near.{below-bits, same_from_none}
+use Rattle.codes.specs.SymbolsLemmas.{below-bits, differing_self, same_from_none, tell_bits}
 use Rattle.staircase.specs.Holding.{message_of_lem}
 
 module _ (lift rows columns : ℕ) (es : List ℤ) (given : List Bool) (size : length given ≡ (columns + rows) * lift) where
@@ -26,6 +25,6 @@ module _ (lift rows columns : ℕ) (es : List ℤ) (given : List Bool) (size : l
   word_from_within message e w =
       let places = w.places in
       let near = w.near in
-      let same = same_from_none (word_of lift rows columns es message) given (omega arith) in
+      let same = same_from_none bit_number tell_bits (word_of lift rows columns es message) given (omega arith) in
       let front = sym (message_of_lem lift rows columns es message w.size) ∙ ap (take (columns * lift)) same in
       sym same ∙ ap (word_of lift rows columns es) front

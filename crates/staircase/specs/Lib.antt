@@ -4,4 +4,3 @@ pub mod Faults
 pub mod Holding
 pub mod Groups
 pub mod Places
-pub mod Near

@@ -1,10 +1,11 @@
 // The staircase code as a code of bits. It finds wrong bits by its checks, and mends none.
 ghost use Rattle.std.specs.Prelude.{◌≡◌, ◌*◌, Bool, List, take};
 ghost use Rattle.std.proofs.Common.{sym, ap, ◌∙◌, arith, rules};
+ghost use Rattle.codes.specs.Symbols.{bit_number};
+ghost use Rattle.codes.specs.SymbolsLemmas.{below-bits, same_from_none, tell_bits};
 ghost use Rattle.staircase.specs.Coding.{message_size, word_in, word_size};
 ghost use Rattle.staircase.specs.Holding.{length-word, word-short, message_of_lem};
 ghost use Rattle.staircase.specs.Staircase.{word_of};
-ghost use Rattle.staircase.specs.Near.{below-bits, same_from_none};
 
 use crate::code::Staircase;
 use codes::words::{BeyondReach, MendingCode, SendingCode};
@@ -31,7 +32,7 @@ impl SendingCode for Staircase {
     // words that differ in no place begin with the same message
     ghost distant = { λ c m o h k b d near.
         let word : List Bool → List Bool = word_of c.shape.lift c.shape.rows c.shape.columns c.exponents.items in
-        let same : word m ≡ word o = same_from_none (word m) (word o) (omega arith) in
+        let same : word m ≡ word o = same_from_none bit_number tell_bits (word m) (word o) (omega arith) in
         sym (message_of_lem c.shape.lift c.shape.rows c.shape.columns c.exponents.items m h)
         ∙ ap (take (c.shape.columns * c.shape.lift)) same
         ∙ message_of_lem c.shape.lift c.shape.rows c.shape.columns c.exponents.items o k };

@@ -1,4 +1,4 @@
-use Rattle.staircase.specs.Near.{below-bits}
+use Rattle.codes.specs.SymbolsLemmas.{below-bits}
 use Rattle.figures.proofs.words.check_row.Goals as goal
 
 pub encode-requires-clause-below : goal.encode-requires-clause-below

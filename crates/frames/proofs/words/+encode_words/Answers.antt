@@ -1,5 +1,5 @@
 use Rattle.std.proofs.Common.{arith}
-use Rattle.staircase.specs.Near.{below-bits}
+use Rattle.codes.specs.SymbolsLemmas.{below-bits}
 use Rattle.frames.proofs.DataWords.{coded_none, coded_more}
 use Rattle.frames.proofs.words.+encode_words.Goals as goal
 

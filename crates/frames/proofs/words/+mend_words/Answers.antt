@@ -1,5 +1,5 @@
 use Rattle.std.proofs.Common.{◌≡◌, ◌-◌, Err, arith, rules}
-use Rattle.staircase.specs.Near.{below-bits}
+use Rattle.codes.specs.SymbolsLemmas.{below-bits}
 use Rattle.frames.proofs.DataWords.{within_none, within_behind, lost_before, lost_behind, mended_within, refused_lost}
 use Rattle.frames.proofs.words.+mend_words.Goals as goal
 
