@@ -7,6 +7,8 @@ use Rattle.cells.specs.Mapping.{mapped}
 use Rattle.cells.specs.declared.cell.Cell.{Cell}
 use Rattle.cells.specs.declared.cell.Order.{Order}
 use Rattle.cells.specs.declared.cell.Order.TheVariants.{Four, Sixteen, SixtyFour}
+use Rattle.cells.specs.declared.constellation.Constellation.{Ghosts as Points}
+use Rattle.codes.specs.declared.words.SendingCode.{Ghosts as Code}
 use Rattle.lineup.specs.Layouts.{block_length_of, words_of}
 use Rattle.lineup.specs.Stated.{stated_mis, stated_tis}
 use Rattle.lineup.specs.declared.kind.CellKind.{CellKind}
@@ -17,6 +19,7 @@ use Rattle.modes.specs.declared.mode.DataConstellation.{DataConstellation}
 use Rattle.modes.specs.declared.mode.DataConstellation.TheVariants.{Qam4, Qam16, Qam64}
 use Rattle.modes.specs.declared.station.Station.{Station}
 use Rattle.packets.specs.Packets.{Content, block_of}
+use Rattle.frames.specs.declared.channel.Channel.{Channel}
 use Rattle.frames.specs.Laying.{laid}
 use Rattle.frames.specs.Words.{coded}
 
@@ -35,6 +38,11 @@ pub record Sending : Type 0 where
 abbrev pub sending : (mis_word tis_word : List ℕ → List ℕ) → (List Bool → List Bool) → (mis_point tis_point data_point : Order → List Bool → Cell) → (k n : ℕ) → Sending
 sending m t d p q r k n =
     record { mis_word = m; tis_word = t; data_word = d; mis_point = p; tis_point = q; data_point = r; k = k; n = n }
+
+-- that of a channel and a data code, by what their types' codes and constellations mean
+abbrev pub sending_on : {M T D A B C : Type 0} → Code M ℕ → Code T ℕ → Code D Bool → Points A → Points B → Points C → Channel M T A B C → D → Sending
+sending_on mis tis «data» p q r channel code =
+    sending (mis.word channel.mis) (tis.word channel.tis) («data».word code) (p.point channel.mis_points) (q.point channel.tis_points) (r.point channel.data_points) («data».message_length code) («data».word_length code)
 
 -- the order of each constellation of the data
 abbrev pub data_order : DataConstellation → Order

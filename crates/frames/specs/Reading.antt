@@ -7,6 +7,8 @@ use Rattle.cells.specs.Mapping.{decided_bits}
 use Rattle.cells.specs.declared.cell.Cell.{Cell}
 use Rattle.cells.specs.declared.cell.Order.{Order}
 use Rattle.cells.specs.declared.cell.Order.TheVariants.{Four}
+use Rattle.cells.specs.declared.constellation.Constellation.{Ghosts as Points}
+use Rattle.codes.specs.declared.words.MendingCode.{Ghosts as Mender}
 use Rattle.lineup.specs.Layouts.{block_length_of, words_of}
 use Rattle.lineup.specs.Stated.{coding_of, stated_mis, stated_tis}
 use Rattle.lineup.specs.declared.kind.CellKind.{CellKind}
@@ -25,6 +27,7 @@ use Rattle.packets.specs.Packets.{Content, Fits, block_of, packet_in}
 use Rattle.frames.specs.Frames.{Sending, data_bits, data_order, frame_of}
 use Rattle.frames.specs.Laying.{picked}
 use Rattle.frames.specs.Words.{WordLost, WordsWithin, wrong_bits}
+use Rattle.frames.specs.declared.channel.Channel.{Channel}
 use Rattle.frames.specs.declared.fault.FrameFault.{FrameFault}
 use Rattle.frames.specs.declared.fault.FrameFault.TheVariants.{Mis as MisFault, OtherMode, Tis as TisFault, OtherDataCoding, Data as DataFault, Packet as PacketFault}
 
@@ -41,6 +44,11 @@ pub record Mending : Type 0 where
 abbrev pub mending : (mis_reach tis_reach data_reach : ℕ) → (mis_decided tis_decided data_decided : Order → Cell → List Bool) → Mending
 mending a b c x y z =
     record { mis_reach = a; tis_reach = b; data_reach = c; mis_decided = x; tis_decided = y; data_decided = z }
+
+-- that of a channel and a data code, by what their types' codes and constellations mean
+abbrev pub mending_on : {M T D A B C : Type 0} → Mender M ℕ → Mender T ℕ → Mender D Bool → Points A → Points B → Points C → Channel M T A B C → D → Mending
+mending_on mis tis «data» p q r channel code =
+    mending (mis.reach channel.mis) (tis.reach channel.tis) («data».reach code) (p.decided channel.mis_points) (q.decided channel.tis_points) (r.decided channel.data_points)
 
 -- what a frame states: the mode, the station and the packet
 pub record Stated : Type 0 where

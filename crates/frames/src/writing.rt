@@ -2,7 +2,7 @@
 ghost use Rattle.std.specs.Prelude.{◌≡◌, ◌*◌, ◌/◌, ◌≤◌, length};
 ghost use Rattle.cells.specs.declared.cell.Order.TheVariants.{Four};
 ghost use Rattle.lineup.specs.Layouts.{block_length_of};
-ghost use Rattle.frames.specs.Frames.{block_frame, data_cells, data_order, sending};
+ghost use Rattle.frames.specs.Frames.{block_frame, data_cells, data_order, sending_on};
 ghost use Rattle.frames.specs.Laying.{numbers_of};
 
 use crate::channel::Channel;
@@ -52,7 +52,7 @@ impl<
     )
         requires block { length block.now ≡ block_length_of layout.now.mode (D.SendingCode.message_length layout.now.code.now) }
         requires room { length cells.old ≡ D.SendingCode.word_length layout.now.code.now / 2 }
-        ensures { cells.new ≡ data_cells (sending (M.SendingCode.word self.now.mis) (T.SendingCode.word self.now.tis) (D.SendingCode.word layout.now.code.now) (A.Constellation.point self.now.mis_points) (B.Constellation.point self.now.tis_points) (C.Constellation.point self.now.data_points) (D.SendingCode.message_length layout.now.code.now) (D.SendingCode.word_length layout.now.code.now)) layout.now.mode block.now }
+        ensures { cells.new ≡ data_cells (sending_on M.SendingCode.own T.SendingCode.own D.SendingCode.own A.Constellation.own B.Constellation.own C.Constellation.own self.now layout.now.code.now) layout.now.mode block.now }
     {
         let count = layout.words();
         let mut store = [false; MOST_MESSAGE_BITS];
@@ -79,7 +79,7 @@ impl<
     )
         requires block { length block.now ≡ block_length_of layout.now.mode (D.SendingCode.message_length layout.now.code.now) }
         requires cells { length numbers.old ≡ 2 * length layout.now.plan.now }
-        ensures { numbers.new ≡ numbers_of (block_frame (sending (M.SendingCode.word self.now.mis) (T.SendingCode.word self.now.tis) (D.SendingCode.word layout.now.code.now) (A.Constellation.point self.now.mis_points) (B.Constellation.point self.now.tis_points) (C.Constellation.point self.now.data_points) (D.SendingCode.message_length layout.now.code.now) (D.SendingCode.word_length layout.now.code.now)) layout.now.plan.now layout.now.mode station block.now) }
+        ensures { numbers.new ≡ numbers_of (block_frame (sending_on M.SendingCode.own T.SendingCode.own D.SendingCode.own A.Constellation.own B.Constellation.own C.Constellation.own self.now layout.now.code.now) layout.now.plan.now layout.now.mode station block.now) }
     {
         let mode = layout.mode();
         let mis = write_mis(&self.mis, &self.mis_points, mode.mis());
