@@ -7,13 +7,10 @@ use Rattle.frames.specs.Faults.{refusal_of}
 use Rattle.frames.specs.Laying.{cells_in}
 use Rattle.frames.specs.Reading.{FrameAnswer, HasFrame, Mending, ReadsSent, Told, mending}
 use Rattle.frames.specs.declared.fault.FrameFault.{FrameFault}
-use Rattle.lineup.specs.declared.kind.CellKind.{CellKind}
 use Rattle.lineup.specs.declared.mode.Mode.{Mode}
-use Rattle.cells.specs.declared.cell.Order.{Order}
-use Rattle.frames.specs.Frames.{Sending}
 use Rattle.messages.specs.CollectorCalls.{CollectorState, Fetching, Taking, new_collector}
 use Rattle.messages.specs.declared.content.Placing.{Placing}
-use Rattle.radio.specs.Lines.{Line, line, paired}
+use Rattle.radio.specs.Lines.{Line, paired}
 use Rattle.radio.specs.declared.answer.Taken.{Taken}
 
 -- the line-up, how its streams are read, and the message that is collected
@@ -26,10 +23,13 @@ pub record ReceiverState : Type 0 where
 abbrev pub new_receiver : Line → Mending → ReceiverState
 new_receiver l ear = record { line = l; ear = ear; collector = new_collector (l.block - 6) }
 
+abbrev pub with_data_reach : Mending → ℕ → Mending
+with_data_reach m reach =
+    mending m.mis_reach m.tis_reach reach m.mis_decided m.tis_decided m.data_decided
+
 -- that, on a line-up and a channel, whatever the reach of the data code's copy is
-abbrev pub NewReceiver : Sending → Option Mode → List CellKind → (block mis_reach tis_reach : ℕ) → (mis_decided tis_decided data_decided : Order → Cell → List Bool) → ReceiverState → Type 0
-NewReceiver air mode plan block a b x y z s =
-    (data_reach : ℕ) × (s ≡ new_receiver (line air mode plan block) (mending a b data_reach x y z))
+abbrev pub NewReceiver : Line → Mending → ReceiverState → Type 0
+NewReceiver l ear s = (reach : ℕ) × (s ≡ new_receiver l (with_data_reach ear reach))
 
 abbrev pub with_collector : ReceiverState → CollectorState → ReceiverState
 with_collector s x = record { line = s.line; ear = s.ear; collector = x }

@@ -45,9 +45,9 @@ impl<
     C: Constellation,
 > Exciter<'a, M, T, D, A, B, C> {
     ghost use Rattle.std.specs.Prelude.{length};
-    ghost use Rattle.frames.specs.Frames.{sending};
+    ghost use Rattle.frames.specs.Frames.{sending_on};
     ghost use Rattle.radio.specs.ExciterCalls.{Clears, Loads, Sends, Stations, new_exciter};
-    ghost use Rattle.radio.specs.Lines.{line};
+    ghost use Rattle.radio.specs.Lines.{line_on};
     ghost use Rattle.radio.specs.ExciterStates.{exciter_state};
 
     // A new exciter on a copy of a line-up has no station and no message.
@@ -56,7 +56,7 @@ impl<
         channel: &'a Channel<M, T, A, B, C>,
         line_up: &LineUp<D>,
     ) -> Result<Self, AllocError>
-        ensures { IfOk result (λ e. exciter_state e ≡ new_exciter (line (sending (M.SendingCode.word channel.now.mis) (T.SendingCode.word channel.now.tis) (D.SendingCode.word line_up.now.code) (A.Constellation.point channel.now.mis_points) (B.Constellation.point channel.now.tis_points) (C.Constellation.point channel.now.data_points) (D.SendingCode.message_length line_up.now.code) (D.SendingCode.word_length line_up.now.code)) line_up.now.mode line_up.now.plan.items (block_length (view_of line_up.now)))) }
+        ensures { IfOk result (λ e. exciter_state e ≡ new_exciter (line_on (sending_on M.SendingCode.own T.SendingCode.own D.SendingCode.own A.Constellation.own B.Constellation.own C.Constellation.own channel.now line_up.now.code) line_up.now)) }
     {
         let line_up = line_up.clone()?;
         let piece_length = line_up.block_length().saturating_sub(AROUND_DATA);

@@ -1,7 +1,7 @@
 // The receiver: a message, collected piece by piece from the frames that are taken.
 ghost use Rattle.std.specs.Prelude.{◌≡◌, ◌-◌, IfOk, length};
-ghost use Rattle.frames.specs.Frames.{sending};
-ghost use Rattle.frames.specs.Reading.{mending};
+ghost use Rattle.frames.specs.Frames.{sending_on};
+ghost use Rattle.frames.specs.Reading.{mending_on};
 ghost use Rattle.lineup.specs.Views.{block_length, view_of};
 ghost use Rattle.messages.specs.Pieces.{piece_length_of};
 ghost use Rattle.messages.specs.Views.{collector_state};
@@ -44,6 +44,7 @@ impl<
     B: Constellation,
     C: Constellation,
 > Receiver<'a, M, T, D, A, B, C> {
+    ghost use Rattle.radio.specs.Lines.{line_on};
     ghost use Rattle.radio.specs.ReceiverCalls.{Fetches, NewReceiver, Takes};
     ghost use Rattle.radio.specs.ReceiverStates.{receiver_state};
 
@@ -53,7 +54,7 @@ impl<
         channel: &'a Channel<M, T, A, B, C>,
         line_up: &LineUp<D>,
     ) -> Result<Self, AllocError>
-        ensures { IfOk result (λ r. NewReceiver (sending (M.SendingCode.word channel.now.mis) (T.SendingCode.word channel.now.tis) (D.SendingCode.word line_up.now.code) (A.Constellation.point channel.now.mis_points) (B.Constellation.point channel.now.tis_points) (C.Constellation.point channel.now.data_points) (D.SendingCode.message_length line_up.now.code) (D.SendingCode.word_length line_up.now.code)) line_up.now.mode line_up.now.plan.items (block_length (view_of line_up.now)) (M.MendingCode.reach channel.now.mis) (T.MendingCode.reach channel.now.tis) (A.Constellation.decided channel.now.mis_points) (B.Constellation.decided channel.now.tis_points) (C.Constellation.decided channel.now.data_points) (receiver_state r)) }
+        ensures { IfOk result (λ r. NewReceiver (line_on (sending_on M.SendingCode.own T.SendingCode.own D.SendingCode.own A.Constellation.own B.Constellation.own C.Constellation.own channel.now line_up.now.code) line_up.now) (mending_on M.MendingCode.own T.MendingCode.own D.MendingCode.own A.Constellation.own B.Constellation.own C.Constellation.own channel.now line_up.now.code) (receiver_state r)) }
     {
         let line_up = line_up.clone()?;
         let piece_length = line_up.block_length().saturating_sub(AROUND_DATA);

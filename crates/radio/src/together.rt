@@ -1,13 +1,13 @@
 // An exciter and a receiver on one line-up and one channel.
 ghost use Rattle.std.specs.Prelude.{◌≡◌, ◌-◌, IfOk, Some};
 ghost use Rattle.frames.specs.Apart.{FramesApart};
-ghost use Rattle.frames.specs.Frames.{sending};
+ghost use Rattle.frames.specs.Frames.{sending_on};
 ghost use Rattle.lineup.specs.Views.{block_length, view_of};
 ghost use Rattle.lineup.specs.declared.mode.Mode.{Mode};
 ghost use Rattle.messages.specs.Pieces.{piece_length_of};
 ghost use Rattle.radio.specs.ExciterCalls.{new_exciter};
 ghost use Rattle.radio.specs.ExciterStates.{exciter_state};
-ghost use Rattle.radio.specs.Lines.{line};
+ghost use Rattle.radio.specs.Lines.{line_on};
 ghost use Rattle.radio.specs.Promise.{RunsPromise, RunsShown};
 ghost use Rattle.radio.specs.ReceiverCalls.{new_receiver};
 ghost use Rattle.radio.specs.ReceiverStates.{receiver_state};
@@ -43,7 +43,7 @@ pub fn pair<
     ),
     AllocError,
 >
-    ensures exciter { IfOk result (λ p. exciter_state p.0 ≡ new_exciter (line (sending (M.SendingCode.word channel.now.mis) (T.SendingCode.word channel.now.tis) (D.SendingCode.word line_up.now.code) (A.Constellation.point channel.now.mis_points) (B.Constellation.point channel.now.tis_points) (C.Constellation.point channel.now.data_points) (D.SendingCode.message_length line_up.now.code) (D.SendingCode.word_length line_up.now.code)) line_up.now.mode line_up.now.plan.items (block_length (view_of line_up.now)))) }
+    ensures exciter { IfOk result (λ p. exciter_state p.0 ≡ new_exciter (line_on (sending_on M.SendingCode.own T.SendingCode.own D.SendingCode.own A.Constellation.own B.Constellation.own C.Constellation.own channel.now line_up.now.code) line_up.now)) }
     ensures receiver { IfOk result (λ p. receiver_state p.1 ≡ new_receiver (exciter_state p.0).line (receiver_state p.1).ear) }
     ensures frames { IfOk result (λ p. FramesApart (exciter_state p.0).line.air (receiver_state p.1).ear (M.SendingCode.distance channel.now.mis) (T.SendingCode.distance channel.now.tis) (D.SendingCode.distance line_up.now.code)) }
     ensures runs { IfOk result (λ p. RunsPromise (piece_length_of (block_length (view_of line_up.now) - 6)) (exciter_state p.0) (receiver_state p.1)) }
