@@ -1,17 +1,18 @@
 use Rattle.std.proofs.Common.{◌≡◌, ℕ, ◌*◌, List, ℤ, vec_items, Some, Option, refl, sym, ap, ◌∙◌}
-use Rattle.frames.specs.Frames.{Sending, sending}
-use Rattle.frames.specs.Reading.{Mending, mending}
+use Rattle.frames.specs.Frames.{Sending, sending_on}
+use Rattle.frames.specs.Reading.{Mending, mending_on}
+use Rattle.frames.specs.declared.channel.Channel.{Channel}
 use Rattle.frames.proofs.Apart.{Distant, frames_apart}
 use Rattle.frames.proofs.FrameAnswers.{Known}
 use Rattle.lineup.specs.Judging.{held}
 use Rattle.lineup.specs.Layouts.{block_length_of}
-use Rattle.lineup.specs.Views.{block_length, view_of}
+use Rattle.lineup.specs.Views.{block_length}
 use Rattle.lineup.specs.declared.kind.CellKind.{CellKind}
 use Rattle.lineup.specs.declared.mode.Mode.{Mode}
 use Rattle.staircase.specs.declared.shape.Shape.{Shape}
 use Rattle.radio.specs.ExciterStates.{exciter_state}
-use Rattle.radio.specs.ReceiverCalls.{new_receiver}
-use Rattle.radio.specs.Lines.{line}
+use Rattle.radio.specs.ReceiverCalls.{new_receiver, with_data_reach}
+use Rattle.radio.specs.Lines.{line_on}
 use Rattle.radio.specs.ReceiverStates.{receiver_state}
 use Rattle.lineup.proofs.Rooms.{roomy}
 use Rattle.radio.proofs.Promised.{runs_promised}
@@ -20,43 +21,40 @@ use Rattle.radio.proofs.RunsShown.{runs_shown}
 use Rattle.radio.proofs.together.pair.Given as given
 use Rattle.radio.proofs.together.pair.Goals as goal
 
-module _ (g : given.Over) (mis : g.row.M.Denot) (tis : g.row.T.Denot) (code : g.row.D.Denot) (a : g.row.A.Denot) (b : g.row.B.Denot) (d : g.row.C.Denot) where
+module _ (g : given.Over) (channel : Channel g.row.M.Denot g.row.T.Denot g.row.A.Denot g.row.B.Denot g.row.C.Denot) (code : g.row.D.Denot) where
   abbrev sends : Sending
-  sends =
-      sending (g.M.SendingCode.word mis) (g.T.SendingCode.word tis) (g.D.SendingCode.word code) (g.A.Constellation.point a) (g.B.Constellation.point b) (g.C.Constellation.point d)
-      (g.D.SendingCode.message_length code) (g.D.SendingCode.word_length code)
+  sends = sending_on g.M.SendingCode g.T.SendingCode g.D.SendingCode g.A.Constellation g.B.Constellation g.C.Constellation channel code
 
   abbrev mends : ℕ → Mending
-  mends reach =
-      mending (g.M.MendingCode.reach mis) (g.T.MendingCode.reach tis) reach (g.A.Constellation.decided a) (g.B.Constellation.decided b) (g.C.Constellation.decided d)
+  mends reach = with_data_reach (mending_on g.M.MendingCode g.T.MendingCode g.D.MendingCode g.A.Constellation g.B.Constellation g.C.Constellation channel code) reach
 
   known : (reach : ℕ) → Known sends (mends reach)
   known reach =
       record {
         mis = record {
-          sized = λ x h. g.met.M.SendingCode.sized mis x (h ∙ sym (g.met.M.FixedCode.message mis)) ∙ g.met.M.FixedCode.word mis;
-          below = λ x h l. g.met.M.SendingCode.below mis x (h ∙ sym (g.met.M.FixedCode.message mis)) l;
-          bits = λ o x. g.met.A.Constellation.sized a o x;
-          steady = λ o. g.met.A.Constellation.steady a o;
+          sized = λ x h. g.met.M.SendingCode.sized channel.mis x (h ∙ sym (g.met.M.FixedCode.message channel.mis)) ∙ g.met.M.FixedCode.word channel.mis;
+          below = λ x h l. g.met.M.SendingCode.below channel.mis x (h ∙ sym (g.met.M.FixedCode.message channel.mis)) l;
+          bits = λ o x. g.met.A.Constellation.sized channel.mis_points o x;
+          steady = λ o. g.met.A.Constellation.steady channel.mis_points o;
         };
         tis = record {
-          sized = λ x h. g.met.T.SendingCode.sized tis x (h ∙ sym (g.met.T.FixedCode.message tis)) ∙ g.met.T.FixedCode.word tis;
-          below = λ x h l. g.met.T.SendingCode.below tis x (h ∙ sym (g.met.T.FixedCode.message tis)) l;
-          bits = λ o x. g.met.B.Constellation.sized b o x;
-          steady = λ o. g.met.B.Constellation.steady b o;
+          sized = λ x h. g.met.T.SendingCode.sized channel.tis x (h ∙ sym (g.met.T.FixedCode.message channel.tis)) ∙ g.met.T.FixedCode.word channel.tis;
+          below = λ x h l. g.met.T.SendingCode.below channel.tis x (h ∙ sym (g.met.T.FixedCode.message channel.tis)) l;
+          bits = λ o x. g.met.B.Constellation.sized channel.tis_points o x;
+          steady = λ o. g.met.B.Constellation.steady channel.tis_points o;
         };
         «data» = record {
           sized = λ x h. g.met.D.SendingCode.sized code x h;
-          bits = λ o x. g.met.C.Constellation.sized d o x;
-          steady = λ o. g.met.C.Constellation.steady d o;
+          bits = λ o x. g.met.C.Constellation.sized channel.data_points o x;
+          steady = λ o. g.met.C.Constellation.steady channel.data_points o;
         };
       }
 
-  distant : Distant sends (g.M.SendingCode.distance mis) (g.T.SendingCode.distance tis) (g.D.SendingCode.distance code)
+  distant : Distant sends (g.M.SendingCode.distance channel.mis) (g.T.SendingCode.distance channel.tis) (g.D.SendingCode.distance code)
   distant =
       record {
-        mis = λ x y h i p q l. g.met.M.SendingCode.distant mis x y (h ∙ sym (g.met.M.FixedCode.message mis)) (i ∙ sym (g.met.M.FixedCode.message mis)) p q l;
-        tis = λ x y h i p q l. g.met.T.SendingCode.distant tis x y (h ∙ sym (g.met.T.FixedCode.message tis)) (i ∙ sym (g.met.T.FixedCode.message tis)) p q l;
+        mis = λ x y h i p q l. g.met.M.SendingCode.distant channel.mis x y (h ∙ sym (g.met.M.FixedCode.message channel.mis)) (i ∙ sym (g.met.M.FixedCode.message channel.mis)) p q l;
+        tis = λ x y h i p q l. g.met.T.SendingCode.distant channel.tis x y (h ∙ sym (g.met.T.FixedCode.message channel.tis)) (i ∙ sym (g.met.T.FixedCode.message channel.tis)) p q l;
         «data» = λ x y h i p q l. g.met.D.SendingCode.distant code x y h i p q l;
       }
 
@@ -71,28 +69,28 @@ returns-clause-frames g c =
     let reach = c.in_ok-receiver.ensures.0 in
     let air = ap (λ x. x.line.air) c.in_ok-exciter.ensures in
     let ear = ap (λ x. x.ear) c.in_ok-receiver.ensures.1 in
-    rw (air, ear) (frames_apart (sends g channel.mis channel.tis code channel.mis_points channel.tis_points channel.data_points) (mends g channel.mis channel.tis code channel.mis_points channel.tis_points channel.data_points reach) _ _ _
-    (known g channel.mis channel.tis code channel.mis_points channel.tis_points channel.data_points reach) (distant g channel.mis channel.tis code channel.mis_points channel.tis_points channel.data_points))
+    rw (air, ear) (frames_apart (sends g channel code) (mends g channel code reach) _ _ _
+    (known g channel code reach) (distant g channel code))
 
 pub returns-clause-runs : goal.returns-clause-runs
 returns-clause-runs g c =
     let channel = c.args.channel.now in
     let up = c.args.line_up.now in
-    let air = sends g channel.mis channel.tis up.code channel.mis_points channel.tis_points channel.data_points in
-    let l = line air up.mode (vec_items up.plan) (block_length (view_of up)) in
-    let ear = mends g channel.mis channel.tis up.code channel.mis_points channel.tis_points channel.data_points c.in_ok-receiver.ensures.0 in
+    let air = sends g channel up.code in
+    let l = line_on air up in
+    let ear = mends g channel up.code c.in_ok-receiver.ensures.0 in
     runs_promised l l ear (exciter_state c.in_ok-exciter.exciter) (receiver_state c.in_ok-receiver.receiver) c.in_ok-exciter.ensures c.in_ok-receiver.ensures.1 refl
     (blocks_of up.mode (vec_items up.plan) (g.D.DataCode.shape up.code) (g.D.DataCode.exponents up.code) (g.D.SendingCode.message_length up.code) (g.met.D.DataCode.message_sized up.code))
 
 -- the codes of the TIS and of the data tell words apart, by the reach of the data code's copy
-module _ (g : given.Over) (mis : g.row.M.Denot) (tis : g.row.T.Denot) (code copy : g.row.D.Denot) (a : g.row.A.Denot) (b : g.row.B.Denot) (d : g.row.C.Denot)
+module _ (g : given.Over) (channel : Channel g.row.M.Denot g.row.T.Denot g.row.A.Denot g.row.B.Denot g.row.C.Denot) (code copy : g.row.D.Denot)
     (words : g.D.SendingCode.word copy ≡ g.D.SendingCode.word code) (size : g.D.SendingCode.message_length copy ≡ g.D.SendingCode.message_length code) where
-  apart : Apart (sends g mis tis code a b d) (mends g mis tis code a b d (g.D.MendingCode.reach copy))
+  apart : Apart (sends g channel code) (mends g channel code (g.D.MendingCode.reach copy))
   apart =
       record {
-        tis_distance = g.T.SendingCode.distance tis;
-        tis_distant = λ x y p q. g.met.T.SendingCode.distant tis x y (p ∙ sym (g.met.T.FixedCode.message tis)) (q ∙ sym (g.met.T.FixedCode.message tis));
-        tis_unique = g.met.T.MendingCode.unique tis;
+        tis_distance = g.T.SendingCode.distance channel.tis;
+        tis_distant = λ x y p q. g.met.T.SendingCode.distant channel.tis x y (p ∙ sym (g.met.T.FixedCode.message channel.tis)) (q ∙ sym (g.met.T.FixedCode.message channel.tis));
+        tis_unique = g.met.T.MendingCode.unique channel.tis;
         data_distance = g.D.SendingCode.distance copy;
         data_distant = λ x y p q i j few. g.met.D.SendingCode.distant copy x y (p ∙ sym size) (q ∙ sym size) i j (rw words few);
         data_unique = g.met.D.MendingCode.unique copy;
@@ -107,13 +105,13 @@ returns-clause-shown g c m is =
     let reach : g.D.MendingCode.reach copy ≡ c.in_ok-receiver.ensures.0 = ap (λ x. x.ear.data_reach) heard in
     let words : g.D.SendingCode.word copy ≡ g.D.SendingCode.word up.code = ap (λ x. x.line.air.data_word) heard in
     let size : g.D.SendingCode.message_length copy ≡ g.D.SendingCode.message_length up.code = ap (λ x. x.line.air.k) heard in
-    let air = sends g channel.mis channel.tis up.code channel.mis_points channel.tis_points channel.data_points in
-    let l = line air up.mode (vec_items up.plan) (block_length (view_of up)) in
-    let ear = mends g channel.mis channel.tis up.code channel.mis_points channel.tis_points channel.data_points (g.D.MendingCode.reach copy) in
+    let air = sends g channel up.code in
+    let l = line_on air up in
+    let ear = mends g channel up.code (g.D.MendingCode.reach copy) in
     let blocks = blocks_of up.mode (vec_items up.plan) (g.D.DataCode.shape up.code) (g.D.DataCode.exponents up.code) (g.D.SendingCode.message_length up.code) (g.met.D.DataCode.message_sized up.code) in
-    let receiver : receiver_state c.in_ok-receiver.receiver ≡ new_receiver l ear = heard ∙ ap (λ n. new_receiver l (mends g channel.mis channel.tis up.code channel.mis_points channel.tis_points channel.data_points n)) (sym reach) in
+    let receiver : receiver_state c.in_ok-receiver.receiver ≡ new_receiver l ear = heard ∙ ap (λ n. new_receiver l (mends g channel up.code n)) (sym reach) in
     runs_shown l l ear (exciter_state c.in_ok-exciter.exciter) (receiver_state c.in_ok-receiver.receiver) c.in_ok-exciter.ensures receiver refl m is (blocks m is)
-    (known g channel.mis channel.tis up.code channel.mis_points channel.tis_points channel.data_points (g.D.MendingCode.reach copy))
-    (apart g channel.mis channel.tis up.code copy channel.mis_points channel.tis_points channel.data_points words size)
+    (known g channel up.code (g.D.MendingCode.reach copy))
+    (apart g channel up.code copy words size)
     (roomy m (vec_items up.plan) (g.D.DataCode.shape up.code) (g.D.DataCode.exponents up.code) up.mode (vec_items up.plan) (g.D.SendingCode.message_length up.code) (g.D.SendingCode.word_length up.code) up.passed is refl (g.met.D.DataCode.message_sized up.code) (g.met.D.DataCode.word_sized up.code) (g.met.D.SendingCode.short up.code))
     (runs_promised l l ear (exciter_state c.in_ok-exciter.exciter) (receiver_state c.in_ok-receiver.receiver) c.in_ok-exciter.ensures receiver refl blocks)
