@@ -159,6 +159,13 @@ pub record StreamKnown (k n : ℕ) (word : List ℕ → List ℕ) (point : Order
   pub bits : (o : Order) (x : Cell) → length (decided o x) ≡ cell_bits o
   pub steady : (o : Order) → Steady (point o) (cell_bits o) (decided o)
 
+-- by what the laws of a code of fixed lengths and of a constellation say
+pub stream_known : {k n K N : ℕ} {word : List ℕ → List ℕ} {point : Order → List Bool → Cell} {decided : Order → Cell → List Bool} → K ≡ k → N ≡ n
+    → ((x : List ℕ) → length x ≡ K → length (word x) ≡ N) → ((x : List ℕ) → length x ≡ K → Below128 (λ (y : ℕ). y) x → Below128 (λ (y : ℕ). y) (word x))
+    → ((o : Order) (x : Cell) → length (decided o x) ≡ cell_bits o) → ((o : Order) → Steady (point o) (cell_bits o) (decided o)) → StreamKnown k n word point decided
+stream_known k n sized below bits steady =
+    record { sized = λ x h. sized x (h ∙ sym k) ∙ n; below = λ x h l. below x (h ∙ sym k) l; bits = bits; steady = steady }
+
 -- and of those of the data
 pub record DataKnown (k n : ℕ) (word : List Bool → List Bool) (point : Order → List Bool → Cell) (decided : Order → Cell → List Bool) : Type 0 where
   pub sized : (x : List Bool) → length x ≡ k → length (word x) ≡ n

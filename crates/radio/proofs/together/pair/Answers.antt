@@ -4,6 +4,7 @@ use Rattle.frames.specs.Reading.{Mending, mending_on}
 use Rattle.frames.specs.declared.channel.Channel.{Channel}
 use Rattle.frames.proofs.Apart.{Distant, frames_apart}
 use Rattle.frames.proofs.FrameAnswers.{Known}
+use Rattle.frames.proofs.Sent.{stream_known}
 use Rattle.lineup.specs.Judging.{held}
 use Rattle.lineup.specs.Layouts.{block_length_of}
 use Rattle.lineup.specs.Views.{block_length}
@@ -31,23 +32,11 @@ module _ (g : given.Over) (channel : Channel g.row.M.Denot g.row.T.Denot g.row.A
   known : (reach : ℕ) → Known sends (mends reach)
   known reach =
       record {
-        mis = record {
-          sized = λ x h. g.met.M.SendingCode.sized channel.mis x (h ∙ sym (g.met.M.FixedCode.message channel.mis)) ∙ g.met.M.FixedCode.word channel.mis;
-          below = λ x h l. g.met.M.SendingCode.below channel.mis x (h ∙ sym (g.met.M.FixedCode.message channel.mis)) l;
-          bits = λ o x. g.met.A.Constellation.sized channel.mis_points o x;
-          steady = λ o. g.met.A.Constellation.steady channel.mis_points o;
-        };
-        tis = record {
-          sized = λ x h. g.met.T.SendingCode.sized channel.tis x (h ∙ sym (g.met.T.FixedCode.message channel.tis)) ∙ g.met.T.FixedCode.word channel.tis;
-          below = λ x h l. g.met.T.SendingCode.below channel.tis x (h ∙ sym (g.met.T.FixedCode.message channel.tis)) l;
-          bits = λ o x. g.met.B.Constellation.sized channel.tis_points o x;
-          steady = λ o. g.met.B.Constellation.steady channel.tis_points o;
-        };
-        «data» = record {
-          sized = λ x h. g.met.D.SendingCode.sized code x h;
-          bits = λ o x. g.met.C.Constellation.sized channel.data_points o x;
-          steady = λ o. g.met.C.Constellation.steady channel.data_points o;
-        };
+        mis = stream_known (g.met.M.FixedCode.message channel.mis) (g.met.M.FixedCode.word channel.mis) (g.met.M.SendingCode.sized channel.mis) (g.met.M.SendingCode.below channel.mis)
+            (g.met.A.Constellation.sized channel.mis_points) (g.met.A.Constellation.steady channel.mis_points);
+        tis = stream_known (g.met.T.FixedCode.message channel.tis) (g.met.T.FixedCode.word channel.tis) (g.met.T.SendingCode.sized channel.tis) (g.met.T.SendingCode.below channel.tis)
+            (g.met.B.Constellation.sized channel.tis_points) (g.met.B.Constellation.steady channel.tis_points);
+        «data» = record { sized = g.met.D.SendingCode.sized code; bits = g.met.C.Constellation.sized channel.data_points; steady = g.met.C.Constellation.steady channel.data_points };
       }
 
   distant : Distant sends (g.M.SendingCode.distance channel.mis) (g.T.SendingCode.distance channel.tis) (g.D.SendingCode.distance code)

@@ -2,51 +2,37 @@ use Rattle.std.proofs.Common.{sym, ◌∙◌, rules}
 use Rattle.std.proofs.lemmas.Result.{err_from_is_err_and}
 use Rattle.bits.proofs.ByteLaws.{below_from}
 use Rattle.packets.specs.Packets.{carried}
-use Rattle.frames.specs.Frames.{Sending, sending}
+use Rattle.frames.specs.Frames.{Sending, sending_on}
 use Rattle.frames.specs.Laying.{cells_in}
-use Rattle.frames.specs.Reading.{Mending, mending}
+use Rattle.frames.specs.Reading.{Mending, mending_on}
+use Rattle.frames.specs.declared.channel.Channel.{Channel}
 use Rattle.frames.proofs.FrameAnswers.{Known, data_refused, has_frame, mis_refused, packet_refused, packet_told, reads_sent, tis_refused}
+use Rattle.frames.proofs.Sent.{stream_known}
 use Rattle.frames.proofs.channel.Channel.read_frame.Given as given
 use Rattle.frames.proofs.channel.Channel.read_frame.Goals as goal
 
 -- what the bounds say of the codes and the constellations
-module _ (g : given.Over) (mis : g.row.M.Denot) (tis : g.row.T.Denot) (code : g.row.D.Denot) (a : g.row.A.Denot) (b : g.row.B.Denot) (d : g.row.C.Denot) where
+module _ (g : given.Over) (channel : Channel g.row.M.Denot g.row.T.Denot g.row.A.Denot g.row.B.Denot g.row.C.Denot) (code : g.row.D.Denot) where
   abbrev sends : Sending
-  sends =
-      sending (g.M.SendingCode.word mis) (g.T.SendingCode.word tis) (g.D.SendingCode.word code) (g.A.Constellation.point a) (g.B.Constellation.point b) (g.C.Constellation.point d)
-      (g.D.SendingCode.message_length code) (g.D.SendingCode.word_length code)
+  sends = sending_on g.M.SendingCode g.T.SendingCode g.D.SendingCode g.A.Constellation g.B.Constellation g.C.Constellation channel code
 
   abbrev mends : Mending
-  mends =
-      mending (g.M.MendingCode.reach mis) (g.T.MendingCode.reach tis) (g.D.MendingCode.reach code) (g.A.Constellation.decided a) (g.B.Constellation.decided b) (g.C.Constellation.decided d)
+  mends = mending_on g.M.MendingCode g.T.MendingCode g.D.MendingCode g.A.Constellation g.B.Constellation g.C.Constellation channel code
 
   known : Known sends mends
   known =
       record {
-        mis = record {
-          sized = λ x h. g.met.M.SendingCode.sized mis x (h ∙ sym (g.met.M.FixedCode.message mis)) ∙ g.met.M.FixedCode.word mis;
-          below = λ x h l. g.met.M.SendingCode.below mis x (h ∙ sym (g.met.M.FixedCode.message mis)) l;
-          bits = λ o x. g.met.A.Constellation.sized a o x;
-          steady = λ o. g.met.A.Constellation.steady a o;
-        };
-        tis = record {
-          sized = λ x h. g.met.T.SendingCode.sized tis x (h ∙ sym (g.met.T.FixedCode.message tis)) ∙ g.met.T.FixedCode.word tis;
-          below = λ x h l. g.met.T.SendingCode.below tis x (h ∙ sym (g.met.T.FixedCode.message tis)) l;
-          bits = λ o x. g.met.B.Constellation.sized b o x;
-          steady = λ o. g.met.B.Constellation.steady b o;
-        };
-        «data» = record {
-          sized = λ x h. g.met.D.SendingCode.sized code x h;
-          bits = λ o x. g.met.C.Constellation.sized d o x;
-          steady = λ o. g.met.C.Constellation.steady d o;
-        };
+        mis = stream_known (g.met.M.FixedCode.message channel.mis) (g.met.M.FixedCode.word channel.mis) (g.met.M.SendingCode.sized channel.mis) (g.met.M.SendingCode.below channel.mis)
+            (g.met.A.Constellation.sized channel.mis_points) (g.met.A.Constellation.steady channel.mis_points);
+        tis = stream_known (g.met.T.FixedCode.message channel.tis) (g.met.T.FixedCode.word channel.tis) (g.met.T.SendingCode.sized channel.tis) (g.met.T.SendingCode.below channel.tis)
+            (g.met.B.Constellation.sized channel.tis_points) (g.met.B.Constellation.steady channel.tis_points);
+        «data» = record { sized = g.met.D.SendingCode.sized code; bits = g.met.C.Constellation.sized channel.data_points; steady = g.met.C.Constellation.steady channel.data_points };
       }
 
 pub returns-in_err-mis-clause-reads_sent : goal.returns-in_err-mis-clause-reads_sent
 returns-in_err-mis-clause-reads_sent g c =
-    let s = c.args.self.now in
     let l = c.args.layout.now in
-    mis_refused _ _ (known g s.mis s.tis l.code.now s.mis_points s.tis_points s.data_points) l.plan.now l.mode l.roomy (cells_in c.args.received.numbers.now)
+    mis_refused _ _ (known g c.args.self.now l.code.now) l.plan.now l.mode l.roomy (cells_in c.args.received.numbers.now)
     c.in_err-mis.field-0.0 _ c.in_err-mis.ensures.as_sent
 
 pub returns-in_err-tis-clause-answer : goal.returns-in_err-tis-clause-answer
@@ -56,9 +42,8 @@ returns-in_err-tis-clause-answer g c =
 
 pub returns-in_err-tis-clause-reads_sent : goal.returns-in_err-tis-clause-reads_sent
 returns-in_err-tis-clause-reads_sent g c =
-    let s = c.args.self.now in
     let l = c.args.layout.now in
-    tis_refused _ _ (known g s.mis s.tis l.code.now s.mis_points s.tis_points s.data_points) l.plan.now l.mode l.roomy (cells_in c.args.received.numbers.now)
+    tis_refused _ _ (known g c.args.self.now l.code.now) l.plan.now l.mode l.roomy (cells_in c.args.received.numbers.now)
     c.in_err-tis.field-0.0 _ c.in_err-tis.ensures.as_sent
 
 pub returns-in_err-read_block-clause-answer : goal.returns-in_err-read_block-clause-answer
@@ -68,9 +53,8 @@ returns-in_err-read_block-clause-answer g c =
 
 pub returns-in_err-read_block-clause-reads_sent : goal.returns-in_err-read_block-clause-reads_sent
 returns-in_err-read_block-clause-reads_sent g c =
-    let s = c.args.self.now in
     let l = c.args.layout.now in
-    data_refused _ _ (known g s.mis s.tis l.code.now s.mis_points s.tis_points s.data_points) l.plan.now l.mode l.roomy (cells_in c.args.received.numbers.now)
+    data_refused _ _ (known g c.args.self.now l.code.now) l.plan.now l.mode l.roomy (cells_in c.args.received.numbers.now)
     c.in_err-read_block.field-0.0 c.read_block.new.block _ c.in_err-read_block.ensures.as_sent
 
 pub returns-in_err-packet-clause-answer : goal.returns-in_err-packet-clause-answer
@@ -88,30 +72,26 @@ returns-in_err-packet-clause-answer g c =
 
 pub returns-in_err-packet-clause-reads_sent : goal.returns-in_err-packet-clause-reads_sent
 returns-in_err-packet-clause-reads_sent g c =
-    let s = c.args.self.now in
     let l = c.args.layout.now in
-    packet_refused _ _ (known g s.mis s.tis l.code.now s.mis_points s.tis_points s.data_points) l.plan.now l.mode l.roomy (cells_in c.args.received.numbers.now)
+    packet_refused _ _ (known g c.args.self.now l.code.now) l.plan.now l.mode l.roomy (cells_in c.args.received.numbers.now)
     c.read_block.new.block _ c.in_ok-read_block.ensures.as_sent c.in_err-packet.ensures.exactly
 
 pub returns-clause-answer : goal.returns-clause-answer
 returns-clause-answer g c =
-    let s = c.args.self.now in
     let l = c.args.layout.now in
-    let packet = packet_told _ _ (known g s.mis s.tis l.code.now s.mis_points s.tis_points s.data_points) l.plan.now l.mode l.roomy (cells_in c.args.received.numbers.now)
+    let packet = packet_told _ _ (known g c.args.self.now l.code.now) l.plan.now l.mode l.roomy (cells_in c.args.received.numbers.now)
     c.read_block.new.block (carried c.in_ok-packet.packet) (c.read_block.auto.block ∙ c.requires.block) c.in_ok-packet.ensures.exactly c.in_ok-read_block.ensures.told in
     (c.mode.ensures, c.in_ok-mis.ensures.told, c.in_ok-tis.ensures.told, packet.0, packet.1)
 
 pub returns-clause-reads_sent : goal.returns-clause-reads_sent
 returns-clause-reads_sent g c =
-    let s = c.args.self.now in
     let l = c.args.layout.now in
     let e = c.mode.ensures in
-    rw e (reads_sent _ _ (known g s.mis s.tis l.code.now s.mis_points s.tis_points s.data_points) l.plan.now l.mode l.roomy (cells_in c.args.received.numbers.now)
+    rw e (reads_sent _ _ (known g c.args.self.now l.code.now) l.plan.now l.mode l.roomy (cells_in c.args.received.numbers.now)
     c.in_ok-mis.mis c.in_ok-tis.tis c.read_block.new.block (carried c.in_ok-packet.packet)
     c.in_ok-mis.ensures.as_sent c.in_ok-tis.ensures.as_sent c.in_ok-read_block.ensures.as_sent c.in_ok-packet.ensures.exactly)
 
 pub returns-clause-has_frame : goal.returns-clause-has_frame
 returns-clause-has_frame g c =
-    let s = c.args.self.now in
     let l = c.args.layout.now in
-    has_frame _ _ (known g s.mis s.tis l.code.now s.mis_points s.tis_points s.data_points) l.plan.now l.mode l.roomy (cells_in c.args.received.numbers.now) _ (returns-clause-answer g c)
+    has_frame _ _ (known g c.args.self.now l.code.now) l.plan.now l.mode l.roomy (cells_in c.args.received.numbers.now) _ (returns-clause-answer g c)
