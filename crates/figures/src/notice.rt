@@ -11,7 +11,7 @@ fn harbour(heap: Global) -> Result<StaircaseLineUp, AllocError> {
     plan[..14].fill(3);
     plan[14..116].fill(4);
     let mut line_up = StaircaseLineUp::new(heap)?;
-    // the line-up stays empty where this is refused, and then so are all calls
+    // where this is refused the line-up stays empty, and every later call is refused
     let _ = line_up.fill(Asked {
         occupancy: 0,
         tis: 0,
