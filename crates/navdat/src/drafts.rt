@@ -1,38 +1,55 @@
 // `plan RUN…`, `exponents RUN…` and `fill O T D R L M K`: drafts, and the line-up that is filled from them.
-use crate::held::Held;
 use desk::numbers::unsigned;
 use desk::runs::{exponents, plan_bytes};
 use desk::shown::Refused;
 use desk::trouble::Stop;
 use desk::words::exactly;
 use lineup::asked::Asked;
+use lineup::line_up::StaircaseLineUp;
+use std::alloc::Global;
 
-pub fn run_plan(rt: &impl Print, held: &mut Held, words: &[&str]) -> Result<(), Stop> {
-    held.plan = plan_bytes(held.heap, words)?;
-    println!(rt; "plan: {} bytes", held.plan.len())?;
+pub fn run_plan(
+    rt: &impl Print,
+    heap: Global,
+    plan: &mut Vec<u8>,
+    words: &[&str],
+) -> Result<(), Stop> {
+    *plan = plan_bytes(heap, words)?;
+    println!(rt; "plan: {} bytes", plan.len())?;
     Ok(())
 }
 
-pub fn run_exponents(rt: &impl Print, held: &mut Held, words: &[&str]) -> Result<(), Stop> {
-    held.exponents = exponents(held.heap, words)?;
-    println!(rt; "exponents: {}", held.exponents.len())?;
+pub fn run_exponents(
+    rt: &impl Print,
+    heap: Global,
+    draft: &mut Vec<i16>,
+    words: &[&str],
+) -> Result<(), Stop> {
+    *draft = exponents(heap, words)?;
+    println!(rt; "exponents: {}", draft.len())?;
     Ok(())
 }
 
-pub fn run_fill(rt: &impl Print, held: &mut Held, words: &[&str]) -> Result<(), Stop> {
+pub fn run_fill(
+    rt: &impl Print,
+    line_up: &mut StaircaseLineUp,
+    plan: &[u8],
+    exponents: &[i16],
+    words: &[&str],
+) -> Result<(), Stop> {
     let [o, t, d, r, l, m, k] = exactly::<_, 7>(words)?;
     let (occupancy, tis, data, rate) = (unsigned(o)?, unsigned(t)?, unsigned(d)?, unsigned(r)?);
     let (lift, rows, columns) = (unsigned(l)?, unsigned(m)?, unsigned(k)?);
-    let answer = held.line_up.fill(Asked {
+    let answer = line_up.fill(Asked {
         occupancy,
         tis,
         data,
         rate,
-        plan: &held.plan,
+        plan,
         lift,
         rows,
         columns,
-        exponents: &held.exponents,
+        exponents,
     });
     match answer {
         Ok(()) => println!(rt; "fill: done")?,

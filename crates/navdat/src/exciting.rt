@@ -5,8 +5,9 @@ use desk::numbers::{count, unsigned};
 use desk::shown::Refused;
 use desk::trouble::Stop;
 use desk::words::exactly;
-use radio::Exciter;
+use radio::{Exciter, NavdatExciter};
 use refusals::Refusal;
+use std::alloc::Global;
 use std::io;
 
 // Prints that a call was done, or why it was refused.
@@ -25,21 +26,30 @@ pub fn run_exciter(rt: &impl Print, held: &mut Held, words: &[&str]) -> Result<(
     Ok(())
 }
 
-pub fn run_station(rt: &impl Print, held: &mut Held, words: &[&str]) -> Result<(), Stop> {
+pub fn run_station(
+    rt: &impl Print,
+    exciter: &mut NavdatExciter,
+    words: &[&str],
+) -> Result<(), Stop> {
     let [station, hour, minute, duration] = exactly::<_, 4>(words)?;
     let (station, hour) = (unsigned(station)?, unsigned(hour)?);
     let (minute, duration) = (unsigned(minute)?, unsigned(duration)?);
     print_done(
         rt,
         "station",
-        held.exciter.station(station, hour, minute, duration),
+        exciter.station(station, hour, minute, duration),
     )?;
     Ok(())
 }
 
-pub fn run_load(rt: &impl Print, held: &mut Held, words: &[&str]) -> Result<(), Stop> {
-    let bytes = loaded_bytes(held.heap, words)?;
-    print_done(rt, "load", held.exciter.load(&bytes))?;
+pub fn run_load(
+    rt: &impl Print,
+    heap: Global,
+    exciter: &mut NavdatExciter,
+    words: &[&str],
+) -> Result<(), Stop> {
+    let bytes = loaded_bytes(heap, words)?;
+    print_done(rt, "load", exciter.load(&bytes))?;
     Ok(())
 }
 
@@ -63,8 +73,8 @@ pub fn run_send(rt: &impl Print, held: &mut Held, words: &[&str]) -> Result<(), 
     Ok(())
 }
 
-pub fn run_clear(rt: &impl Print, held: &mut Held, words: &[&str]) -> Result<(), Stop> {
+pub fn run_clear(rt: &impl Print, exciter: &mut NavdatExciter, words: &[&str]) -> Result<(), Stop> {
     let [] = exactly::<_, 0>(words)?;
-    print_done(rt, "clear", held.exciter.clear())?;
+    print_done(rt, "clear", exciter.clear())?;
     Ok(())
 }

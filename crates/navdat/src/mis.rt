@@ -1,10 +1,9 @@
 // `mis O T D [I=V …]`: the MIS of three mode numbers, step by step, and what reading its cells gives.
-use crate::answer::print_answer;
 use crate::steps::steps_of;
 use cells::Qam;
 use desk::parts::mode;
 use desk::settings::set_numbers;
-use desk::shown::ModeNumbers;
+use desk::shown::{ModeNumbers, Refused};
 use desk::text::steps_text;
 use desk::trouble::{Stop, Trouble};
 use frames::FrameFault;
@@ -22,7 +21,13 @@ pub fn run_mis(rt: &impl Print, heap: Global, words: &[&str]) -> Result<(), Stop
     set_numbers(settings, &mut cells)?;
     let steps = steps_of(&trace, trace.cells.len());
     print!(rt; "{}", steps_text(heap, "mis", steps)?)?;
-    let answer = read_mis(&mis_code(), &Qam, &cells).map_err(FrameFault::Mis);
-    print_answer(rt, "mis", answer, ModeNumbers)?;
+    match read_mis(&mis_code(), &Qam, &cells) {
+        Ok(mis) => println!(rt;
+            "mis: reads {} mended {}",
+            ModeNumbers(mis.stated),
+            mis.mended
+        )?,
+        Err(fault) => println!(rt; "mis: {}", Refused(FrameFault::Mis(fault).into()))?,
+    }
     Ok(())
 }

@@ -1,10 +1,12 @@
 // `receiver`, `take F` and `fetch N`: the receiver's calls.
 use crate::held::Held;
+use desk::frames::Frames;
 use desk::numbers::count;
 use desk::shown::{ModeNumbers, Refused, StationNumbers};
 use desk::trouble::Stop;
 use desk::words::exactly;
-use radio::{Receiver, Taken};
+use radio::{NavdatReceiver, Receiver, Taken};
+use std::alloc::Global;
 use std::io;
 
 pub fn run_receiver(rt: &impl Print, held: &mut Held, words: &[&str]) -> Result<(), Stop> {
@@ -27,10 +29,15 @@ fn print_taken(rt: &impl Print, taken: Taken) -> io::Result<()> {
     )
 }
 
-pub fn run_take(rt: &impl Print, held: &mut Held, words: &[&str]) -> Result<(), Stop> {
+pub fn run_take(
+    rt: &impl Print,
+    receiver: &mut NavdatReceiver,
+    frames: &Frames,
+    words: &[&str],
+) -> Result<(), Stop> {
     let [frame] = exactly::<_, 1>(words)?;
-    let numbers = held.frames.get(count(frame)?)?;
-    match held.receiver.take(numbers) {
+    let numbers = frames.get(count(frame)?)?;
+    match receiver.take(numbers) {
         Ok(taken) => print_taken(rt, taken)?,
         Err(refusal) => println!(rt; "take: {}", Refused(refusal))?,
     }
@@ -38,11 +45,16 @@ pub fn run_take(rt: &impl Print, held: &mut Held, words: &[&str]) -> Result<(), 
 }
 
 // The bytes are 255 where the message is not copied to.
-pub fn run_fetch(rt: &impl Print, held: &mut Held, words: &[&str]) -> Result<(), Stop> {
+pub fn run_fetch(
+    rt: &impl Print,
+    heap: Global,
+    receiver: &NavdatReceiver,
+    words: &[&str],
+) -> Result<(), Stop> {
     let [size] = exactly::<_, 1>(words)?;
-    let mut bytes = vec![in held.heap; 255u8; count(size)?]?;
-    match held.receiver.fetch(&mut bytes) {
-        Ok(length) => println!(rt; "fetch: {length} bytes {}", hex::encode(held.heap, bytes)?)?,
+    let mut bytes = vec![in heap; 255u8; count(size)?]?;
+    match receiver.fetch(&mut bytes) {
+        Ok(length) => println!(rt; "fetch: {length} bytes {}", hex::encode(heap, bytes)?)?,
         Err(refusal) => println!(rt; "fetch: {}", Refused(refusal))?,
     }
     Ok(())

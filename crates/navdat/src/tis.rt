@@ -1,10 +1,9 @@
 // `tis O D R S H M U Q [I=V …]`: the TIS of a mode and a station, step by step, and what reading its cells gives.
-use crate::answer::print_answer;
 use crate::steps::steps_of;
 use cells::Qam;
 use desk::parts::{part, station};
 use desk::settings::set_numbers;
-use desk::shown::TisNumbers;
+use desk::shown::{Refused, TisNumbers};
 use desk::text::steps_text;
 use desk::trouble::{Stop, Trouble};
 use frames::FrameFault;
@@ -28,7 +27,13 @@ pub fn run_tis(rt: &impl Print, heap: Global, words: &[&str]) -> Result<(), Stop
     set_numbers(settings, &mut cells[..count])?;
     let steps = steps_of(&trace, count);
     print!(rt; "{}", steps_text(heap, "tis", steps)?)?;
-    let answer = read_tis(&tis_code(), &Qam, constellation, &cells).map_err(FrameFault::Tis);
-    print_answer(rt, "tis", answer, TisNumbers)?;
+    match read_tis(&tis_code(), &Qam, constellation, &cells) {
+        Ok(tis) => println!(rt;
+            "tis: reads {} mended {}",
+            TisNumbers(tis.stated),
+            tis.mended
+        )?,
+        Err(fault) => println!(rt; "tis: {}", Refused(FrameFault::Tis(fault).into()))?,
+    }
     Ok(())
 }
