@@ -8,19 +8,24 @@ use desk::text::steps_text;
 use desk::trouble::{Stop, Trouble};
 use frames::FrameFault;
 use modem::{read_tis, write_tis};
-use modes::{Tis, data_coding};
+use modes::{Tis, TisConstellation, data_coding};
 use reed_solomon::streams::tis as tis_code;
 use std::alloc::Global;
+
+// The TIS that the words ask for, and its constellation.
+fn asked([o, d, r, s, h, m, u, q]: [&str; 8]) -> Result<(Tis, TisConstellation), Trouble> {
+    let coding = data_coding(part(o)?, part(d)?, part(r)?);
+    let station = station(s, h, m, u)?;
+    let tis = Tis::new(coding, station).ok_or(Trouble::OutOfRange)?;
+    Ok((tis, part(q)?))
+}
 
 // Runs the command's words, and prints nothing where one of them is wrong.
 pub fn run_tis(rt: &impl Print, heap: Global, words: &[&str]) -> Result<(), Stop> {
     let [o, d, r, s, h, m, u, q, settings @ ..] = words else {
         return Err(Trouble::TooFew.into());
     };
-    let coding = data_coding(part(o)?, part(d)?, part(r)?);
-    let station = station(s, h, m, u)?;
-    let constellation = part(q)?;
-    let tis = Tis::new(coding, station).ok_or(Trouble::OutOfRange)?;
+    let (tis, constellation) = asked([o, d, r, s, h, m, u, q])?;
     let trace = write_tis(&tis_code(), &Qam, constellation, tis);
     let count = constellation.cell_count();
     let mut cells = trace.cells;
