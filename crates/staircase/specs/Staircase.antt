@@ -27,6 +27,10 @@ BadExponent lift exponents place = (place < length exponents) × (InRange lift (
 abbrev pub Filled : (lift rows columns : ℕ) → List ℤ → Type 0
 Filled lift rows columns exponents = (length exponents ≡ rows * columns) × ExponentsKnown lift exponents
 
+-- the smallest code: one bit and its check, with no column in the row's sum
+abbrev pub Smallest : (lift rows columns : ℕ) → List ℤ → Type 0
+Smallest lift rows columns exponents = (lift ≡ 1) × (rows ≡ 1) × (columns ≡ 1) × (exponents ≡ negsuc 0 ∷ [])
+
 -- the sum of two bits, modulo 2
 infixl 65 ◌⊕◌
 abbrev pub ◌⊕◌ : Bool → Bool → Bool

@@ -1,5 +1,5 @@
 // The numbers of a staircase code.
-ghost use Rattle.std.specs.Prelude.{◌≡◌, ◌≤◌, [], ◌∷◌, negsuc, IfOk, vec_capacity};
+ghost use Rattle.std.specs.Prelude.{◌≡◌, ◌≤◌, vec_capacity};
 ghost use Rattle.staircase.specs.Staircase.{Filled};
 
 use crate::data_code::DataCode;
@@ -38,10 +38,8 @@ impl DataCode for Staircase {
 
     ghost same_words = { λ c d same i. word_of (same.0 i).lift (same.0 i).rows (same.0 i).columns (same.1 i) };
 
-    // The smallest code: one bit and its check, with no column in the row's sum.
-    fn new(heap: Global) -> Result<Self, AllocError>
-        ensures { IfOk result (λ c. (c.shape.lift ≡ 1) × (c.shape.rows ≡ 1) × (c.shape.columns ≡ 1) × (c.exponents.items ≡ negsuc 0 ∷ [])) }
-    {
+    // One bit and its check, with no column in the row's sum.
+    fn new(heap: Global) -> Result<Self, AllocError> {
         let mut exponents = Vec::with_capacity(heap, ROOM)?;
         exponents.push_reserved(-1);
         Ok(Staircase {

@@ -1,5 +1,6 @@
 // Codes of the data: their numbers are a shape and exponents.
-ghost use Rattle.std.specs.Prelude.{◌≡◌, ◌+◌, ◌*◌, List, ℤ};
+ghost use Rattle.std.specs.Prelude.{◌≡◌, ◌+◌, ◌*◌, IfOk, List, ℤ};
+ghost use Rattle.staircase.specs.Staircase.{Smallest};
 ghost use Rattle.staircase.specs.declared.shape.Shape.{Shape};
 
 use crate::exponents::Exponents;
@@ -12,8 +13,9 @@ pub trait DataCode: SendingCode<Symbol = bool> + Clone {
 
     ghost exponents: { Self → List ℤ };
 
-    // Some code, which is to be filled.
-    fn new(heap: Global) -> Result<Self, AllocError>;
+    // The smallest code, which is to be filled.
+    fn new(heap: Global) -> Result<Self, AllocError>
+        ensures { IfOk result (λ c. Smallest (shape c).lift (shape c).rows (shape c).columns (exponents c)) };
 
     // Makes this the code with the exponents given.
     fn fill(&mut self, given: Exponents<'_>)
