@@ -5,7 +5,7 @@ use Rattle.refusals.specs.declared.Refusal.TheVariants.{EmptyLineUp, SliceLength
 use Rattle.cells.specs.declared.cell.Cell.{Cell}
 use Rattle.frames.specs.Faults.{refusal_of}
 use Rattle.frames.specs.Laying.{cells_in}
-use Rattle.frames.specs.Reading.{FrameAnswer, HasFrame, Mending, ReadsSent, Told, mending}
+use Rattle.frames.specs.Reading.{FrameAnswer, HasFrame, Mending, ReadsSent, Told}
 use Rattle.frames.specs.declared.fault.FrameFault.{FrameFault}
 use Rattle.lineup.specs.declared.mode.Mode.{Mode}
 use Rattle.messages.specs.CollectorCalls.{CollectorState, Fetching, Taking, new_collector}
@@ -22,14 +22,6 @@ pub record ReceiverState : Type 0 where
 -- empty
 abbrev pub new_receiver : Line → Mending → ReceiverState
 new_receiver l ear = record { line = l; ear = ear; collector = new_collector (l.block - 6) }
-
-abbrev pub with_data_reach : Mending → ℕ → Mending
-with_data_reach m reach =
-    mending m.mis_reach m.tis_reach reach m.mis_decided m.tis_decided m.data_decided
-
--- that, on a line-up and a channel, whatever the reach of the data code's copy is
-abbrev pub NewReceiver : Line → Mending → ReceiverState → Type 0
-NewReceiver l ear s = (reach : ℕ) × (s ≡ new_receiver l (with_data_reach ear reach))
 
 abbrev pub with_collector : ReceiverState → CollectorState → ReceiverState
 with_collector s x = record { line = s.line; ear = s.ear; collector = x }

@@ -3,6 +3,7 @@
 
 mod answer;
 mod exciter;
+mod mending;
 mod next;
 mod product;
 mod receiver;
@@ -10,6 +11,7 @@ mod together;
 
 pub use answer::Taken;
 pub use exciter::Exciter;
+pub use mending::MendingDataCode;
 pub use product::{NavdatChannel, NavdatExciter, NavdatReceiver, navdat_channel, navdat_pair};
 pub use receiver::Receiver;
 pub use together::pair;

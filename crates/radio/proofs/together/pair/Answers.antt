@@ -12,7 +12,6 @@ use Rattle.lineup.specs.declared.kind.CellKind.{CellKind}
 use Rattle.lineup.specs.declared.mode.Mode.{Mode}
 use Rattle.staircase.specs.declared.shape.Shape.{Shape}
 use Rattle.radio.specs.ExciterStates.{exciter_state}
-use Rattle.radio.specs.ReceiverCalls.{new_receiver, with_data_reach}
 use Rattle.radio.specs.Lines.{line_on}
 use Rattle.radio.specs.ReceiverStates.{receiver_state}
 use Rattle.lineup.proofs.Rooms.{roomy}
@@ -26,11 +25,11 @@ module _ (g : given.Over) (channel : Channel g.row.M.Denot g.row.T.Denot g.row.A
   abbrev sends : Sending
   sends = sending_on g.M.SendingCode g.T.SendingCode g.D.SendingCode g.A.Constellation g.B.Constellation g.C.Constellation channel code
 
-  abbrev mends : ℕ → Mending
-  mends reach = with_data_reach (mending_on g.M.MendingCode g.T.MendingCode g.D.MendingCode g.A.Constellation g.B.Constellation g.C.Constellation channel code) reach
+  abbrev mends : Mending
+  mends = mending_on g.M.MendingCode g.T.MendingCode g.D.MendingCode g.A.Constellation g.B.Constellation g.C.Constellation channel code
 
-  known : (reach : ℕ) → Known sends (mends reach)
-  known reach =
+  known : Known sends mends
+  known =
       record {
         mis = stream_known (g.met.M.FixedCode.message channel.mis) (g.met.M.FixedCode.word channel.mis) (g.met.M.SendingCode.sized channel.mis) (g.met.M.SendingCode.below channel.mis)
             (g.met.A.Constellation.sized channel.mis_points) (g.met.A.Constellation.steady channel.mis_points);
@@ -55,52 +54,41 @@ pub returns-clause-frames : goal.returns-clause-frames
 returns-clause-frames g c =
     let channel = c.args.channel.now in
     let code = c.args.line_up.now.code in
-    let reach = c.in_ok-receiver.ensures.0 in
     let air = ap (λ x. x.line.air) c.in_ok-exciter.ensures in
-    let ear = ap (λ x. x.ear) c.in_ok-receiver.ensures.1 in
-    rw (air, ear) (frames_apart (sends g channel code) (mends g channel code reach) _ _ _
-    (known g channel code reach) (distant g channel code))
+    let ear = ap (λ x. x.ear) c.in_ok-receiver.ensures in
+    rw (air, ear) (frames_apart (sends g channel code) (mends g channel code) _ _ _ (known g channel code) (distant g channel code))
 
 pub returns-clause-runs : goal.returns-clause-runs
 returns-clause-runs g c =
     let channel = c.args.channel.now in
     let up = c.args.line_up.now in
-    let air = sends g channel up.code in
-    let l = line_on air up in
-    let ear = mends g channel up.code c.in_ok-receiver.ensures.0 in
-    runs_promised l l ear (exciter_state c.in_ok-exciter.exciter) (receiver_state c.in_ok-receiver.receiver) c.in_ok-exciter.ensures c.in_ok-receiver.ensures.1 refl
+    let l = line_on (sends g channel up.code) up in
+    runs_promised l l (mends g channel up.code) (exciter_state c.in_ok-exciter.exciter) (receiver_state c.in_ok-receiver.receiver) c.in_ok-exciter.ensures c.in_ok-receiver.ensures refl
     (blocks_of up.mode (vec_items up.plan) (g.D.DataCode.shape up.code) (g.D.DataCode.exponents up.code) (g.D.SendingCode.message_length up.code) (g.met.D.DataCode.message_sized up.code))
 
--- the codes of the TIS and of the data tell words apart, by the reach of the data code's copy
-module _ (g : given.Over) (channel : Channel g.row.M.Denot g.row.T.Denot g.row.A.Denot g.row.B.Denot g.row.C.Denot) (code copy : g.row.D.Denot)
-    (words : g.D.SendingCode.word copy ≡ g.D.SendingCode.word code) (size : g.D.SendingCode.message_length copy ≡ g.D.SendingCode.message_length code) where
-  apart : Apart (sends g channel code) (mends g channel code (g.D.MendingCode.reach copy))
+-- the codes of the TIS and of the data tell words apart
+module _ (g : given.Over) (channel : Channel g.row.M.Denot g.row.T.Denot g.row.A.Denot g.row.B.Denot g.row.C.Denot) (code : g.row.D.Denot) where
+  apart : Apart (sends g channel code) (mends g channel code)
   apart =
       record {
         tis_distance = g.T.SendingCode.distance channel.tis;
         tis_distant = λ x y p q. g.met.T.SendingCode.distant channel.tis x y (p ∙ sym (g.met.T.FixedCode.message channel.tis)) (q ∙ sym (g.met.T.FixedCode.message channel.tis));
         tis_unique = g.met.T.MendingCode.unique channel.tis;
-        data_distance = g.D.SendingCode.distance copy;
-        data_distant = λ x y p q i j few. g.met.D.SendingCode.distant copy x y (p ∙ sym size) (q ∙ sym size) i j (rw words few);
-        data_unique = g.met.D.MendingCode.unique copy;
+        data_distance = g.D.SendingCode.distance code;
+        data_distant = λ x y p q i j few. g.met.D.SendingCode.distant code x y p q i j few;
+        data_unique = g.met.D.MendingCode.unique code;
       }
 
 pub returns-clause-shown : goal.returns-clause-shown
 returns-clause-shown g c m is =
     let channel = c.args.channel.now in
     let up = c.args.line_up.now in
-    let copy = c.in_ok-receiver.receiver.line_up.code in
-    let heard = c.in_ok-receiver.ensures.1 in
-    let reach : g.D.MendingCode.reach copy ≡ c.in_ok-receiver.ensures.0 = ap (λ x. x.ear.data_reach) heard in
-    let words : g.D.SendingCode.word copy ≡ g.D.SendingCode.word up.code = ap (λ x. x.line.air.data_word) heard in
-    let size : g.D.SendingCode.message_length copy ≡ g.D.SendingCode.message_length up.code = ap (λ x. x.line.air.k) heard in
-    let air = sends g channel up.code in
-    let l = line_on air up in
-    let ear = mends g channel up.code (g.D.MendingCode.reach copy) in
+    let l = line_on (sends g channel up.code) up in
+    let ear = mends g channel up.code in
     let blocks = blocks_of up.mode (vec_items up.plan) (g.D.DataCode.shape up.code) (g.D.DataCode.exponents up.code) (g.D.SendingCode.message_length up.code) (g.met.D.DataCode.message_sized up.code) in
-    let receiver : receiver_state c.in_ok-receiver.receiver ≡ new_receiver l ear = heard ∙ ap (λ n. new_receiver l (mends g channel up.code n)) (sym reach) in
-    runs_shown l l ear (exciter_state c.in_ok-exciter.exciter) (receiver_state c.in_ok-receiver.receiver) c.in_ok-exciter.ensures receiver refl m is (blocks m is)
-    (known g channel up.code (g.D.MendingCode.reach copy))
-    (apart g channel up.code copy words size)
-    (roomy m (vec_items up.plan) (g.D.DataCode.shape up.code) (g.D.DataCode.exponents up.code) up.mode (vec_items up.plan) (g.D.SendingCode.message_length up.code) (g.D.SendingCode.word_length up.code) up.passed is refl (g.met.D.DataCode.message_sized up.code) (g.met.D.DataCode.word_sized up.code) (g.met.D.SendingCode.short up.code))
-    (runs_promised l l ear (exciter_state c.in_ok-exciter.exciter) (receiver_state c.in_ok-receiver.receiver) c.in_ok-exciter.ensures receiver refl blocks)
+    let exciter = exciter_state c.in_ok-exciter.exciter in
+    let receiver = receiver_state c.in_ok-receiver.receiver in
+    runs_shown l l ear exciter receiver c.in_ok-exciter.ensures c.in_ok-receiver.ensures refl m is (blocks m is) (known g channel up.code) (apart g channel up.code)
+    (roomy m (vec_items up.plan) (g.D.DataCode.shape up.code) (g.D.DataCode.exponents up.code) up.mode (vec_items up.plan) (g.D.SendingCode.message_length up.code) (g.D.SendingCode.word_length up.code) up.passed is refl (g.met.D.DataCode.message_sized up.code)
+    (g.met.D.DataCode.word_sized up.code) (g.met.D.SendingCode.short up.code))
+    (runs_promised l l ear exciter receiver c.in_ok-exciter.ensures c.in_ok-receiver.ensures refl blocks)
