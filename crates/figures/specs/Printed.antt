@@ -1,5 +1,5 @@
 -- The printed figures, as facts about the definitions that the contracts use.
-use Rattle.std.specs.Prelude.{◌≡◌, ℕ, true, false, List, [], ◌∷◌, take, replicate, pos, negsuc}
+use Rattle.std.specs.Prelude.{◌≡◌, ℕ, ◌-◌, true, false, List, [], ◌∷◌, take, replicate, pos, negsuc}
 use Rattle.cells.specs.Qam.{decided_number, qam_point}
 use Rattle.cells.specs.declared.cell.Cell.{Cell}
 use Rattle.cells.specs.declared.cell.Order.TheVariants.{Four}
@@ -9,7 +9,7 @@ use Rattle.reed_solomon.specs.Words.{word_of as rooted_word}
 use Rattle.bits.specs.Bits.{cut}
 use Rattle.bits.specs.Crc.{crc8_of}
 use Rattle.messages.specs.Packets.{packet_of}
-use Rattle.messages.specs.Pieces.{piece_count}
+use Rattle.messages.specs.Pieces.{piece_count, piece_length_of}
 use Rattle.packets.specs.Packets.{header_bits, packet_length}
 use Rattle.staircase.specs.Staircase.{word_of}
 use Rattle.bits.specs.Scrambling.{scrambled}
@@ -62,7 +62,7 @@ pub record Printed : Type 0 where
       ≡ true ∷ false ∷ false ∷ false ∷ false ∷ true ∷ false ∷ false ∷ false ∷ false ∷ false ∷ true ∷ true ∷ false ∷ false ∷ false ∷ []
   -- length 7, toggle 1, last 1, id 1 is the header 00 7A 00 80 (hexadecimal)
   pub header : cut 8 4 (header_bits (record { toggle = true; last = true; id = 1; bytes = 0 ∷ [] })) ≡ 0x00 ∷ 0x7A ∷ 0x00 ∷ 0x80 ∷ []
-  -- at a block of 320 bytes 314 bytes make one piece; 315 make two, the second of length 7
-  pub one_piece : piece_count 314 314 ≡ 1
-  pub two_pieces : piece_count 314 315 ≡ 2
-  pub second_piece : packet_length (packet_of 314 (replicate 315 0) false 1) ≡ 7
+  -- at a block of 320 bytes, of which 6 stand around the data, 314 bytes make one piece; 315 make two, the second of length 7
+  pub one_piece : piece_count (piece_length_of (320 - 6)) 314 ≡ 1
+  pub two_pieces : piece_count (piece_length_of (320 - 6)) 315 ≡ 2
+  pub second_piece : packet_length (packet_of (piece_length_of (320 - 6)) (replicate 315 0) false 1) ≡ 7
