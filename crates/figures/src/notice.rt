@@ -30,7 +30,7 @@ fn harbour(heap: Global) -> Result<StaircaseLineUp, AllocError> {
 fn a_notice_from_shore_to_ship(rt: HostRuntime) -> Result<(), Fail> {
     let line_up = harbour(rt.alloc())?;
     let channel = navdat_channel();
-    let (mut exciter, mut receiver) = navdat_pair(rt.alloc(), &channel, &line_up)?;
+    let (mut exciter, mut receiver) = navdat_pair(rt.alloc(), &channel, line_up)?;
     // ashore: the station, and a notice that takes two frames
     let notice = b"Light buoy 7 is unlit, keep clear";
     assert_eq!(rt; exciter.station(2_320_011, 8, 30, 5), Ok(()));

@@ -20,11 +20,4 @@ impl<D: DataCode> LineUp<D> {
     {
         self.plan.as_slice()
     }
-
-    // The code of the data.
-    pub fn code(&self) -> &D
-        ensures { result.now ≡ self.now.code }
-    {
-        &self.code
-    }
 }

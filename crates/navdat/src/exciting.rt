@@ -20,7 +20,7 @@ fn print_done(rt: &impl Print, name: &str, answer: Result<(), Refusal>) -> io::R
 
 pub fn run_exciter(rt: &impl Print, held: &mut Held, words: &[&str]) -> Result<(), Stop> {
     let [] = exactly::<_, 0>(words)?;
-    held.exciter = Exciter::new(held.heap, held.channel, &held.line_up)?;
+    held.exciter = Exciter::new(held.heap, held.channel, held.line_up.clone()?)?;
     held.numbers = held.line_up.plan().len().saturating_mul(2);
     println!(rt; "exciter: new")?;
     Ok(())

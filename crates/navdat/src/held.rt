@@ -23,7 +23,7 @@ impl<'a> Held<'a> {
     // A new line-up, and an exciter and a receiver on it; the drafts and the list are empty.
     pub fn new(heap: Global, channel: &'a NavdatChannel) -> Result<Self, AllocError> {
         let line_up = StaircaseLineUp::new(heap)?;
-        let (exciter, receiver) = navdat_pair(heap, channel, &line_up)?;
+        let (exciter, receiver) = navdat_pair(heap, channel, line_up.clone()?)?;
         Ok(Held {
             heap,
             channel,

@@ -11,7 +11,7 @@ use std::io;
 
 pub fn run_receiver(rt: &impl Print, held: &mut Held, words: &[&str]) -> Result<(), Stop> {
     let [] = exactly::<_, 0>(words)?;
-    held.receiver = Receiver::new(held.heap, held.channel, &held.line_up)?;
+    held.receiver = Receiver::new(held.heap, held.channel, held.line_up.clone()?)?;
     println!(rt; "receiver: new")?;
     Ok(())
 }

@@ -69,14 +69,14 @@ blocks_held mode plan shape exponents k long m e =
     subst (λ o. block_length_of m k ≡ block_length (held o plan shape exponents)) (sym e) (ap (λ x. words_of m * x / 8) long)
 
 -- the promise on a new exciter and a new receiver on one line-up
-pub runs_promised : (l k : Line) (ear : Mending) (e₀ : ExciterState) (r₀ : ReceiverState) → e₀ ≡ new_exciter l → r₀ ≡ new_receiver k ear → k ≡ l → Blocks l → RunsPromise (piece_length_of (l.block - 6)) e₀ r₀
-runs_promised l k ear e₀ r₀ e f same blocks =
+pub runs_promised : (l : Line) (ear : Mending) (e₀ : ExciterState) (r₀ : ReceiverState) → e₀ ≡ new_exciter l → r₀ ≡ new_receiver l ear → Blocks l → RunsPromise (piece_length_of (l.block - 6)) e₀ r₀
+runs_promised l ear e₀ r₀ e f blocks =
     promised (piece_length_of (l.block - 6)) e₀ r₀ l ear blocks
     (record {
       exciter_line = ap (λ x. x.line) e;
-      receiver_line = ap (λ x. x.line) f ∙ same;
+      receiver_line = ap (λ x. x.line) f;
       ear_is = ap (λ x. x.ear) f;
       packets = refl;
       frames = λ x i. absurd i;
     })
-    (pair_promised (l.block - 6) e₀.sender r₀.collector (ap (λ x. x.sender) e) (ap (λ x. x.collector) f ∙ ap (λ x. (new_receiver x ear).collector) same))
+    (pair_promised (l.block - 6) e₀.sender r₀.collector (ap (λ x. x.sender) e) (ap (λ x. x.collector) f))

@@ -241,12 +241,11 @@ module _ (l : Line) (ear : Mending) (mode : Mode) (has_mode : l.mode ≡ Some mo
     }
 
 -- there is such a run of a new exciter and a new receiver on one line-up that is filled
-pub runs_shown : (l k : Line) (ear : Mending) (e₀ : ExciterState) (r₀ : ReceiverState) → e₀ ≡ new_exciter l → r₀ ≡ new_receiver k ear → k ≡ l
+pub runs_shown : (l : Line) (ear : Mending) (e₀ : ExciterState) (r₀ : ReceiverState) → e₀ ≡ new_exciter l → r₀ ≡ new_receiver l ear
     → (mode : Mode) → l.mode ≡ Some mode → block_length_of mode l.air.k ≡ l.block → Known l.air ear → Apart l.air ear → Roomy mode l.plan l.air.k l.air.n
     → RunsPromise (piece_length_of (l.block - 6)) e₀ r₀ → RunsShown (piece_length_of (l.block - 6)) e₀ r₀
-runs_shown l k ear x y e f same mode has_mode blocks known apart roomy promise =
-    let g : y ≡ new_receiver l ear = f ∙ ap (λ i. new_receiver i ear) same in
+runs_shown l ear x y e f mode has_mode blocks known apart roomy promise =
     let d = piece_length_of (l.block - 6) in
-    subst (λ i. RunsShown d i y) (sym e) (subst (λ j. RunsShown d (new_exciter l) j) (sym g)
+    subst (λ i. RunsShown d i y) (sym e) (subst (λ j. RunsShown d (new_exciter l) j) (sym f)
     (shown l ear mode has_mode blocks known apart roomy
-    (subst (λ j. RunsPromise d (new_exciter l) j) g (subst (λ i. RunsPromise d i y) e promise))))
+    (subst (λ j. RunsPromise d (new_exciter l) j) f (subst (λ i. RunsPromise d i y) e promise))))

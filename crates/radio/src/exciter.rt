@@ -50,15 +50,14 @@ impl<
     ghost use Rattle.radio.specs.Lines.{line_on};
     ghost use Rattle.radio.specs.ExciterStates.{exciter_state};
 
-    // A new exciter on a copy of a line-up has no station and no message.
+    // A new exciter on a line-up has no station and no message.
     pub fn new(
         heap: Global,
         channel: &'a Channel<M, T, A, B, C>,
-        line_up: &LineUp<D>,
+        line_up: LineUp<D>,
     ) -> Result<Self, AllocError>
-        ensures { IfOk result (λ e. exciter_state e ≡ new_exciter (line_on (sending_on M.SendingCode.own T.SendingCode.own D.SendingCode.own A.Constellation.own B.Constellation.own C.Constellation.own channel.now line_up.now.code) line_up.now)) }
+        ensures { IfOk result (λ e. exciter_state e ≡ new_exciter (line_on (sending_on M.SendingCode.own T.SendingCode.own D.SendingCode.own A.Constellation.own B.Constellation.own C.Constellation.own channel.now line_up.code) line_up)) }
     {
-        let line_up = line_up.clone()?;
         let piece_length = line_up.block_length().saturating_sub(AROUND_DATA);
         let sender = Sender::new(heap, piece_length)?;
         Ok(Exciter {

@@ -3,7 +3,6 @@
 
 mod answer;
 mod exciter;
-mod mending;
 mod next;
 mod product;
 mod receiver;
@@ -11,7 +10,6 @@ mod together;
 
 pub use answer::Taken;
 pub use exciter::Exciter;
-pub use mending::MendingDataCode;
 pub use product::{NavdatChannel, NavdatExciter, NavdatReceiver, navdat_channel, navdat_pair};
 pub use receiver::Receiver;
 pub use together::pair;

@@ -58,13 +58,13 @@ pub fn navdat_channel() -> NavdatChannel
 pub fn navdat_pair<'a>(
     heap: Global,
     channel: &'a NavdatChannel,
-    line_up: &StaircaseLineUp,
+    line_up: StaircaseLineUp,
 ) -> Result<(NavdatExciter<'a>, NavdatReceiver<'a>), AllocError>
-    ensures exciter { IfOk result (λ p. exciter_state p.0 ≡ new_exciter (line_on (sending_on ⟦<MisReedSolomon as SendingCode>⟧ ⟦<TisReedSolomon as SendingCode>⟧ ⟦<Staircase as SendingCode>⟧ ⟦<Qam as Constellation>⟧ ⟦<Qam as Constellation>⟧ ⟦<Qam as Constellation>⟧ channel.now line_up.now.code) line_up.now)) }
+    ensures exciter { IfOk result (λ p. exciter_state p.0 ≡ new_exciter (line_on (sending_on ⟦<MisReedSolomon as SendingCode>⟧ ⟦<TisReedSolomon as SendingCode>⟧ ⟦<Staircase as SendingCode>⟧ ⟦<Qam as Constellation>⟧ ⟦<Qam as Constellation>⟧ ⟦<Qam as Constellation>⟧ channel.now line_up.code) line_up)) }
     ensures receiver { IfOk result (λ p. receiver_state p.1 ≡ new_receiver (exciter_state p.0).line (mending 1 1 0 qam_decided qam_decided qam_decided)) }
     ensures frames { IfOk result (λ p. FramesApart (exciter_state p.0).line.air (receiver_state p.1).ear 3 21 1) }
-    ensures runs { IfOk result (λ p. RunsPromise (piece_length_of (block_length (view_of line_up.now) - 6)) (exciter_state p.0) (receiver_state p.1)) }
-    ensures shown { IfOk result (λ p. (m : Mode) → line_up.now.mode ≡ Some m → RunsShown (piece_length_of (block_length (view_of line_up.now) - 6)) (exciter_state p.0) (receiver_state p.1)) }
+    ensures runs { IfOk result (λ p. RunsPromise (piece_length_of (block_length (view_of line_up) - 6)) (exciter_state p.0) (receiver_state p.1)) }
+    ensures shown { IfOk result (λ p. (m : Mode) → line_up.mode ≡ Some m → RunsShown (piece_length_of (block_length (view_of line_up) - 6)) (exciter_state p.0) (receiver_state p.1)) }
 {
     pair(heap, channel, line_up)
 }

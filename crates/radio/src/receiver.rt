@@ -7,7 +7,6 @@ ghost use Rattle.messages.specs.Pieces.{piece_length_of};
 ghost use Rattle.messages.specs.Views.{collector_state};
 
 use crate::answer::Taken;
-use crate::mending::MendingDataCode;
 use crate::next::AROUND_DATA;
 use cells::Constellation;
 use codes::lengths::FixedCode;
@@ -17,6 +16,7 @@ use lineup::line_up::LineUp;
 use messages::Collector;
 use packets::MOST_BLOCK;
 use refusals::Refusal;
+use staircase::data_code::DataCode;
 use std::alloc::{AllocError, Global};
 
 #[derive(Drop)]
@@ -24,7 +24,7 @@ pub struct Receiver<
     'a,
     M: FixedCode<2, 4> + MendingCode<Symbol = u8>,
     T: FixedCode<9, 29> + MendingCode<Symbol = u8>,
-    D: MendingDataCode,
+    D: DataCode + MendingCode<Symbol = bool>,
     A: Constellation,
     B: Constellation,
     C: Constellation,
@@ -39,7 +39,7 @@ impl<
     'a,
     M: FixedCode<2, 4> + MendingCode<Symbol = u8>,
     T: FixedCode<9, 29> + MendingCode<Symbol = u8>,
-    D: MendingDataCode,
+    D: DataCode + MendingCode<Symbol = bool>,
     A: Constellation,
     B: Constellation,
     C: Constellation,
@@ -48,15 +48,14 @@ impl<
     ghost use Rattle.radio.specs.ReceiverCalls.{Fetches, Takes, new_receiver};
     ghost use Rattle.radio.specs.ReceiverStates.{receiver_state};
 
-    // A new receiver on a copy of a line-up is empty.
+    // A new receiver on a line-up is empty.
     pub fn new(
         heap: Global,
         channel: &'a Channel<M, T, A, B, C>,
-        line_up: &LineUp<D>,
+        line_up: LineUp<D>,
     ) -> Result<Self, AllocError>
-        ensures { IfOk result (λ r. receiver_state r ≡ new_receiver (line_on (sending_on M.SendingCode.own T.SendingCode.own D.SendingCode.own A.Constellation.own B.Constellation.own C.Constellation.own channel.now line_up.now.code) line_up.now) (mending_on M.MendingCode.own T.MendingCode.own D.MendingCode.own A.Constellation.own B.Constellation.own C.Constellation.own channel.now line_up.now.code)) }
+        ensures { IfOk result (λ r. receiver_state r ≡ new_receiver (line_on (sending_on M.SendingCode.own T.SendingCode.own D.SendingCode.own A.Constellation.own B.Constellation.own C.Constellation.own channel.now line_up.code) line_up) (mending_on M.MendingCode.own T.MendingCode.own D.MendingCode.own A.Constellation.own B.Constellation.own C.Constellation.own channel.now line_up.code)) }
     {
-        let line_up = line_up.clone()?;
         let piece_length = line_up.block_length().saturating_sub(AROUND_DATA);
         let collector = Collector::new(heap, piece_length)?;
         Ok(Receiver {

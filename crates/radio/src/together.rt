@@ -14,13 +14,13 @@ ghost use Rattle.radio.specs.ReceiverCalls.{new_receiver};
 ghost use Rattle.radio.specs.ReceiverStates.{receiver_state};
 
 use crate::exciter::Exciter;
-use crate::mending::MendingDataCode;
 use crate::receiver::Receiver;
 use cells::Constellation;
 use codes::lengths::FixedCode;
 use codes::words::MendingCode;
 use frames::Channel;
 use lineup::line_up::LineUp;
+use staircase::data_code::DataCode;
 use std::alloc::{AllocError, Global};
 
 // The promise is over the frames of all exciters with the codes and constellations, and over every history of calls on the two;
@@ -29,14 +29,14 @@ pub fn pair<
     'a,
     M: FixedCode<2, 4> + MendingCode<Symbol = u8>,
     T: FixedCode<9, 29> + MendingCode<Symbol = u8>,
-    D: MendingDataCode,
+    D: DataCode + MendingCode<Symbol = bool>,
     A: Constellation,
     B: Constellation,
     C: Constellation,
 >(
     heap: Global,
     channel: &'a Channel<M, T, A, B, C>,
-    line_up: &LineUp<D>,
+    line_up: LineUp<D>,
 ) -> Result<
     (
         Exciter<'a, M, T, D, A, B, C>,
@@ -44,13 +44,14 @@ pub fn pair<
     ),
     AllocError,
 >
-    ensures exciter { IfOk result (λ p. exciter_state p.0 ≡ new_exciter (line_on (sending_on M.SendingCode.own T.SendingCode.own D.SendingCode.own A.Constellation.own B.Constellation.own C.Constellation.own channel.now line_up.now.code) line_up.now)) }
-    ensures receiver { IfOk result (λ p. receiver_state p.1 ≡ new_receiver (exciter_state p.0).line (mending_on M.MendingCode.own T.MendingCode.own D.MendingCode.own A.Constellation.own B.Constellation.own C.Constellation.own channel.now line_up.now.code)) }
-    ensures frames { IfOk result (λ p. FramesApart (exciter_state p.0).line.air (receiver_state p.1).ear (M.SendingCode.distance channel.now.mis) (T.SendingCode.distance channel.now.tis) (D.SendingCode.distance line_up.now.code)) }
-    ensures runs { IfOk result (λ p. RunsPromise (piece_length_of (block_length (view_of line_up.now) - 6)) (exciter_state p.0) (receiver_state p.1)) }
-    ensures shown { IfOk result (λ p. (m : Mode) → line_up.now.mode ≡ Some m → RunsShown (piece_length_of (block_length (view_of line_up.now) - 6)) (exciter_state p.0) (receiver_state p.1)) }
+    ensures exciter { IfOk result (λ p. exciter_state p.0 ≡ new_exciter (line_on (sending_on M.SendingCode.own T.SendingCode.own D.SendingCode.own A.Constellation.own B.Constellation.own C.Constellation.own channel.now line_up.code) line_up)) }
+    ensures receiver { IfOk result (λ p. receiver_state p.1 ≡ new_receiver (exciter_state p.0).line (mending_on M.MendingCode.own T.MendingCode.own D.MendingCode.own A.Constellation.own B.Constellation.own C.Constellation.own channel.now line_up.code)) }
+    ensures frames { IfOk result (λ p. FramesApart (exciter_state p.0).line.air (receiver_state p.1).ear (M.SendingCode.distance channel.now.mis) (T.SendingCode.distance channel.now.tis) (D.SendingCode.distance line_up.code)) }
+    ensures runs { IfOk result (λ p. RunsPromise (piece_length_of (block_length (view_of line_up) - 6)) (exciter_state p.0) (receiver_state p.1)) }
+    ensures shown { IfOk result (λ p. (m : Mode) → line_up.mode ≡ Some m → RunsShown (piece_length_of (block_length (view_of line_up) - 6)) (exciter_state p.0) (receiver_state p.1)) }
 {
-    let exciter = Exciter::new(heap, channel, line_up)?;
+    let copy = line_up.clone()?;
+    let exciter = Exciter::new(heap, channel, copy)?;
     let receiver = Receiver::new(heap, channel, line_up)?;
     Ok((exciter, receiver))
 }

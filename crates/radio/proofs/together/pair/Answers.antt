@@ -1,21 +1,18 @@
-use Rattle.std.proofs.Common.{◌≡◌, ℕ, ◌*◌, List, ℤ, vec_items, Some, Option, refl, sym, ap, ◌∙◌}
+use Rattle.std.proofs.Common.{◌≡◌, vec_items, refl, sym, ap, ◌∙◌}
 use Rattle.frames.specs.Frames.{Sending, sending_on}
 use Rattle.frames.specs.Reading.{Mending, mending_on}
 use Rattle.frames.specs.declared.channel.Channel.{Channel}
 use Rattle.frames.proofs.Apart.{Distant, frames_apart}
 use Rattle.frames.proofs.FrameAnswers.{Known}
 use Rattle.frames.proofs.Sent.{stream_known}
-use Rattle.lineup.specs.Judging.{held}
-use Rattle.lineup.specs.Layouts.{block_length_of}
-use Rattle.lineup.specs.Views.{block_length}
-use Rattle.lineup.specs.declared.kind.CellKind.{CellKind}
-use Rattle.lineup.specs.declared.mode.Mode.{Mode}
-use Rattle.staircase.specs.declared.shape.Shape.{Shape}
+use Rattle.lineup.specs.Views.{Alike, block_length}
+use Rattle.lineup.specs.declared.line_up.LineUp.{LineUp}
+use Rattle.radio.specs.ExciterCalls.{new_exciter}
 use Rattle.radio.specs.ExciterStates.{exciter_state}
 use Rattle.radio.specs.Lines.{line_on}
 use Rattle.radio.specs.ReceiverStates.{receiver_state}
 use Rattle.lineup.proofs.Rooms.{roomy}
-use Rattle.radio.proofs.Promised.{runs_promised}
+use Rattle.radio.proofs.Promised.{blocks_held, runs_promised, same_line}
 use Rattle.radio.proofs.Reached.{Apart}
 use Rattle.radio.proofs.RunsShown.{runs_shown}
 use Rattle.radio.proofs.together.pair.Given as given
@@ -46,25 +43,29 @@ module _ (g : given.Over) (channel : Channel g.row.M.Denot g.row.T.Denot g.row.A
         «data» = λ x y h i p q l. g.met.D.SendingCode.distant code x y h i p q l;
       }
 
--- the block of a line-up is that of its mode and its code
-blocks_of : (mode : Option Mode) (plan : List CellKind) (shape : Shape) (exponents : List ℤ) (k : ℕ) → k ≡ shape.columns * shape.lift → (m : Mode) → mode ≡ Some m → block_length_of m k ≡ block_length (held mode plan shape exponents)
-blocks_of mode plan shape exponents k e m is = rw (is, e) refl
+-- the line of a copy is the line-up's own
+line_of_copy : (g : given.Over) (channel : Channel g.row.M.Denot g.row.T.Denot g.row.A.Denot g.row.B.Denot g.row.C.Denot) {bits : _} (up copy : LineUp g.row.D.Denot g.D.DataCode g.D.SendingCode bits g.D.Clone) → Alike up copy
+    → line_on (sends g channel copy.code) copy ≡ line_on (sends g channel up.code) up
+line_of_copy g channel up copy same = same_line same.word same.message_length same.word_length same.mode same.plan (ap block_length same.view)
+
+pub returns-clause-exciter : goal.returns-clause-exciter
+returns-clause-exciter g c = c.in_ok-exciter.ensures ∙ ap new_exciter (line_of_copy g c.args.channel.now c.args.line_up c.in_ok-copy.copy c.in_ok-copy.ensures.cases)
 
 pub returns-clause-frames : goal.returns-clause-frames
 returns-clause-frames g c =
     let channel = c.args.channel.now in
-    let code = c.args.line_up.now.code in
-    let air = ap (λ x. x.line.air) c.in_ok-exciter.ensures in
+    let code = c.args.line_up.code in
+    let air = ap (λ x. x.line.air) (returns-clause-exciter g c) in
     let ear = ap (λ x. x.ear) c.in_ok-receiver.ensures in
     rw (air, ear) (frames_apart (sends g channel code) (mends g channel code) _ _ _ (known g channel code) (distant g channel code))
 
 pub returns-clause-runs : goal.returns-clause-runs
 returns-clause-runs g c =
     let channel = c.args.channel.now in
-    let up = c.args.line_up.now in
+    let up = c.args.line_up in
     let l = line_on (sends g channel up.code) up in
-    runs_promised l l (mends g channel up.code) (exciter_state c.in_ok-exciter.exciter) (receiver_state c.in_ok-receiver.receiver) c.in_ok-exciter.ensures c.in_ok-receiver.ensures refl
-    (blocks_of up.mode (vec_items up.plan) (g.D.DataCode.shape up.code) (g.D.DataCode.exponents up.code) (g.D.SendingCode.message_length up.code) (g.met.D.DataCode.message_sized up.code))
+    runs_promised l (mends g channel up.code) (exciter_state c.in_ok-exciter.exciter) (receiver_state c.in_ok-receiver.receiver) (returns-clause-exciter g c) c.in_ok-receiver.ensures
+    (blocks_held up.mode (vec_items up.plan) (g.D.DataCode.shape up.code) (g.D.DataCode.exponents up.code) (g.D.SendingCode.message_length up.code) (g.met.D.DataCode.message_sized up.code))
 
 -- the codes of the TIS and of the data tell words apart
 module _ (g : given.Over) (channel : Channel g.row.M.Denot g.row.T.Denot g.row.A.Denot g.row.B.Denot g.row.C.Denot) (code : g.row.D.Denot) where
@@ -82,13 +83,13 @@ module _ (g : given.Over) (channel : Channel g.row.M.Denot g.row.T.Denot g.row.A
 pub returns-clause-shown : goal.returns-clause-shown
 returns-clause-shown g c m is =
     let channel = c.args.channel.now in
-    let up = c.args.line_up.now in
+    let up = c.args.line_up in
     let l = line_on (sends g channel up.code) up in
     let ear = mends g channel up.code in
-    let blocks = blocks_of up.mode (vec_items up.plan) (g.D.DataCode.shape up.code) (g.D.DataCode.exponents up.code) (g.D.SendingCode.message_length up.code) (g.met.D.DataCode.message_sized up.code) in
+    let blocks = blocks_held up.mode (vec_items up.plan) (g.D.DataCode.shape up.code) (g.D.DataCode.exponents up.code) (g.D.SendingCode.message_length up.code) (g.met.D.DataCode.message_sized up.code) in
     let exciter = exciter_state c.in_ok-exciter.exciter in
     let receiver = receiver_state c.in_ok-receiver.receiver in
-    runs_shown l l ear exciter receiver c.in_ok-exciter.ensures c.in_ok-receiver.ensures refl m is (blocks m is) (known g channel up.code) (apart g channel up.code)
+    runs_shown l ear exciter receiver (returns-clause-exciter g c) c.in_ok-receiver.ensures m is (blocks m is) (known g channel up.code) (apart g channel up.code)
     (roomy m (vec_items up.plan) (g.D.DataCode.shape up.code) (g.D.DataCode.exponents up.code) up.mode (vec_items up.plan) (g.D.SendingCode.message_length up.code) (g.D.SendingCode.word_length up.code) up.passed is refl (g.met.D.DataCode.message_sized up.code)
     (g.met.D.DataCode.word_sized up.code) (g.met.D.SendingCode.short up.code))
-    (runs_promised l l ear exciter receiver c.in_ok-exciter.ensures c.in_ok-receiver.ensures refl blocks)
+    (runs_promised l ear exciter receiver (returns-clause-exciter g c) c.in_ok-receiver.ensures blocks)
