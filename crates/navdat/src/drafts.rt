@@ -2,7 +2,7 @@
 use desk::numbers::unsigned;
 use desk::runs::{exponents, plan_bytes};
 use desk::shown::Refused;
-use desk::trouble::Stop;
+use desk::trouble::{Stop, Trouble};
 use desk::words::exactly;
 use lineup::asked::Asked;
 use lineup::line_up::StaircaseLineUp;
@@ -30,6 +30,22 @@ pub fn run_exponents(
     Ok(())
 }
 
+// What the words and the drafts ask for.
+fn asked<'a>(words: &[&str], plan: &'a [u8], exponents: &'a [i16]) -> Result<Asked<'a>, Trouble> {
+    let [o, t, d, r, l, m, k] = exactly::<_, 7>(words)?;
+    Ok(Asked {
+        occupancy: unsigned(o)?,
+        tis: unsigned(t)?,
+        data: unsigned(d)?,
+        rate: unsigned(r)?,
+        plan,
+        lift: unsigned(l)?,
+        rows: unsigned(m)?,
+        columns: unsigned(k)?,
+        exponents,
+    })
+}
+
 pub fn run_fill(
     rt: &impl Print,
     line_up: &mut StaircaseLineUp,
@@ -37,21 +53,7 @@ pub fn run_fill(
     exponents: &[i16],
     words: &[&str],
 ) -> Result<(), Stop> {
-    let [o, t, d, r, l, m, k] = exactly::<_, 7>(words)?;
-    let (occupancy, tis, data, rate) = (unsigned(o)?, unsigned(t)?, unsigned(d)?, unsigned(r)?);
-    let (lift, rows, columns) = (unsigned(l)?, unsigned(m)?, unsigned(k)?);
-    let answer = line_up.fill(Asked {
-        occupancy,
-        tis,
-        data,
-        rate,
-        plan,
-        lift,
-        rows,
-        columns,
-        exponents,
-    });
-    match answer {
+    match line_up.fill(asked(words, plan, exponents)?) {
         Ok(()) => println!(rt; "fill: done")?,
         Err(refusal) => println!(rt; "fill: {}", Refused(refusal))?,
     }

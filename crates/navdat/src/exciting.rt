@@ -3,7 +3,7 @@ use crate::held::Held;
 use desk::loads::loaded_bytes;
 use desk::numbers::{count, unsigned};
 use desk::shown::Refused;
-use desk::trouble::Stop;
+use desk::trouble::{Stop, Trouble};
 use desk::words::exactly;
 use radio::{Exciter, NavdatExciter};
 use refusals::Refusal;
@@ -53,16 +53,18 @@ pub fn run_load(
     Ok(())
 }
 
+// How many numbers a frame is to have: those that the line-up's has, where no word says another count.
+fn size_of(words: &[&str], usual: usize) -> Result<usize, Trouble> {
+    if words.is_empty() {
+        return Ok(usual);
+    }
+    let [size] = exactly::<_, 1>(words)?;
+    count(size)
+}
+
 // The sent frame joins the list; a refused send leaves the list as it was.
 pub fn run_send(rt: &impl Print, held: &mut Held, words: &[&str]) -> Result<(), Stop> {
-    let size = match words {
-        [] => held.numbers,
-        _ => {
-            let [size] = exactly::<_, 1>(words)?;
-            count(size)?
-        }
-    };
-    let mut numbers = vec![in held.heap; 0i16; size]?;
+    let mut numbers = vec![in held.heap; 0i16; size_of(words, held.numbers)?]?;
     match held.exciter.send(&mut numbers) {
         Ok(()) => {
             let frame = held.frames.push(numbers)?;

@@ -13,14 +13,19 @@ fn flag(word: &str) -> Result<bool, Trouble> {
     Ok(natural(word, 1)? == 1)
 }
 
-// The block that the words ask for.
-fn block_of(heap: Global, words: &[&str]) -> Result<Vec<u8>, Trouble> {
-    let [toggle, last, id, size, data] = exactly::<_, 5>(words)?;
-    let header = Header {
+// The header that the words ask for.
+fn header_of(toggle: &str, last: &str, id: &str) -> Result<Header, Trouble> {
+    Ok(Header {
         toggle: flag(toggle)?,
         last: flag(last)?,
         id: natural(id, 1023)? as u16,
-    };
+    })
+}
+
+// The block that the words ask for.
+fn block_of(heap: Global, words: &[&str]) -> Result<Vec<u8>, Trouble> {
+    let [toggle, last, id, size, data] = exactly::<_, 5>(words)?;
+    let header = header_of(toggle, last, id)?;
     let size = natural(size, MOST_BLOCK as u32)? as usize;
     let data = hex::decode(heap, data)?;
     let mut block = vec![in heap; 0u8; size]?;
