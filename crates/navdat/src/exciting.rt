@@ -1,7 +1,8 @@
 // `exciter`, `station S H M D`, `load hex HEX`, `load ramp N`, `send`, `send N` and `clear`: the exciter's calls.
+use crate::counts::only_count;
 use crate::held::Held;
 use desk::loads::loaded_bytes;
-use desk::numbers::{count, unsigned};
+use desk::numbers::unsigned;
 use desk::shown::Refused;
 use desk::trouble::{Stop, Trouble};
 use desk::words::exactly;
@@ -58,8 +59,7 @@ fn size_of(words: &[&str], usual: usize) -> Result<usize, Trouble> {
     if words.is_empty() {
         return Ok(usual);
     }
-    let [size] = exactly::<_, 1>(words)?;
-    count(size)
+    only_count(words)
 }
 
 // The sent frame joins the list; a refused send leaves the list as it was.

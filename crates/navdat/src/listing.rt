@@ -1,4 +1,5 @@
 // `copy F`, `set F I V`, `resize F N` and `show F`: the list of frames, numbered from 0.
+use crate::counts::only_count;
 use desk::frames::Frames;
 use desk::numbers::{count, signed};
 use desk::text::numbers_text;
@@ -7,8 +8,7 @@ use desk::words::exactly;
 use std::alloc::Global;
 
 pub fn run_copy(rt: &impl Print, frames: &mut Frames, words: &[&str]) -> Result<(), Stop> {
-    let [frame] = exactly::<_, 1>(words)?;
-    let copy = frames.copy(count(frame)?)?;
+    let copy = frames.copy(only_count(words)?)?;
     println!(rt; "copy: frame {copy}")?;
     Ok(())
 }
@@ -35,8 +35,7 @@ pub fn run_show(
     frames: &Frames,
     words: &[&str],
 ) -> Result<(), Stop> {
-    let [frame] = exactly::<_, 1>(words)?;
-    let numbers = frames.get(count(frame)?)?;
+    let numbers = frames.get(only_count(words)?)?;
     println!(rt; "show:{}", numbers_text(heap, numbers)?)?;
     Ok(())
 }

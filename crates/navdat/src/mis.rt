@@ -1,6 +1,6 @@
 // `mis O T D [I=V …]`: the MIS of three mode numbers, step by step, and what reading its cells gives.
 use crate::steps::steps_of;
-use cells::Qam;
+use cells::{Cell, Qam};
 use desk::parts::mode;
 use desk::settings::set_numbers;
 use desk::shown::{ModeNumbers, Refused};
@@ -10,6 +10,19 @@ use frames::FrameFault;
 use modem::{read_mis, write_mis};
 use reed_solomon::streams::mis as mis_code;
 use std::alloc::Global;
+use std::io;
+
+// Prints what reading the cells gives.
+fn print_read(rt: &impl Print, cells: &[Cell; 14]) -> io::Result<()> {
+    match read_mis(&mis_code(), &Qam, cells) {
+        Ok(mis) => println!(rt;
+            "mis: reads {} mended {}",
+            ModeNumbers(mis.stated),
+            mis.mended
+        ),
+        Err(fault) => println!(rt; "mis: {}", Refused(FrameFault::Mis(fault).into())),
+    }
+}
 
 // Runs the command's words, and prints nothing where one of them is wrong.
 pub fn run_mis(rt: &impl Print, heap: Global, words: &[&str]) -> Result<(), Stop> {
@@ -21,13 +34,6 @@ pub fn run_mis(rt: &impl Print, heap: Global, words: &[&str]) -> Result<(), Stop
     set_numbers(settings, &mut cells)?;
     let steps = steps_of(&trace, trace.cells.len());
     print!(rt; "{}", steps_text(heap, "mis", steps)?)?;
-    match read_mis(&mis_code(), &Qam, &cells) {
-        Ok(mis) => println!(rt;
-            "mis: reads {} mended {}",
-            ModeNumbers(mis.stated),
-            mis.mended
-        )?,
-        Err(fault) => println!(rt; "mis: {}", Refused(FrameFault::Mis(fault).into()))?,
-    }
+    print_read(rt, &cells)?;
     Ok(())
 }

@@ -1,7 +1,7 @@
 // `receiver`, `take F` and `fetch N`: the receiver's calls.
+use crate::counts::only_count;
 use crate::held::Held;
 use desk::frames::Frames;
-use desk::numbers::count;
 use desk::shown::{ModeNumbers, Refused, StationNumbers};
 use desk::trouble::Stop;
 use desk::words::exactly;
@@ -35,8 +35,7 @@ pub fn run_take(
     frames: &Frames,
     words: &[&str],
 ) -> Result<(), Stop> {
-    let [frame] = exactly::<_, 1>(words)?;
-    let numbers = frames.get(count(frame)?)?;
+    let numbers = frames.get(only_count(words)?)?;
     match receiver.take(numbers) {
         Ok(taken) => print_taken(rt, taken)?,
         Err(refusal) => println!(rt; "take: {}", Refused(refusal))?,
@@ -51,8 +50,7 @@ pub fn run_fetch(
     receiver: &NavdatReceiver,
     words: &[&str],
 ) -> Result<(), Stop> {
-    let [size] = exactly::<_, 1>(words)?;
-    let mut bytes = vec![in heap; 255u8; count(size)?]?;
+    let mut bytes = vec![in heap; 255u8; only_count(words)?]?;
     match receiver.fetch(&mut bytes) {
         Ok(length) => println!(rt; "fetch: {length} bytes {}", hex::encode(heap, bytes)?)?,
         Err(refusal) => println!(rt; "fetch: {}", Refused(refusal))?,

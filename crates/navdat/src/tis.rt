@@ -1,6 +1,6 @@
 // `tis O D R S H M U Q [I=V …]`: the TIS of a mode and a station, step by step, and what reading its cells gives.
 use crate::steps::steps_of;
-use cells::Qam;
+use cells::{Cell, Qam};
 use desk::parts::{part, station};
 use desk::settings::set_numbers;
 use desk::shown::{Refused, TisNumbers};
@@ -11,6 +11,7 @@ use modem::{read_tis, write_tis};
 use modes::{Tis, TisConstellation, data_coding};
 use reed_solomon::streams::tis as tis_code;
 use std::alloc::Global;
+use std::io;
 
 // The TIS that the words ask for, and its constellation.
 fn asked([o, d, r, s, h, m, u, q]: [&str; 8]) -> Result<(Tis, TisConstellation), Trouble> {
@@ -18,6 +19,22 @@ fn asked([o, d, r, s, h, m, u, q]: [&str; 8]) -> Result<(Tis, TisConstellation),
     let station = station(s, h, m, u)?;
     let tis = Tis::new(coding, station).ok_or(Trouble::OutOfRange)?;
     Ok((tis, part(q)?))
+}
+
+// Prints what reading the cells gives.
+fn print_read(
+    rt: &impl Print,
+    constellation: TisConstellation,
+    cells: &[Cell; 102],
+) -> io::Result<()> {
+    match read_tis(&tis_code(), &Qam, constellation, cells) {
+        Ok(tis) => println!(rt;
+            "tis: reads {} mended {}",
+            TisNumbers(tis.stated),
+            tis.mended
+        ),
+        Err(fault) => println!(rt; "tis: {}", Refused(FrameFault::Tis(fault).into())),
+    }
 }
 
 // Runs the command's words, and prints nothing where one of them is wrong.
@@ -32,13 +49,6 @@ pub fn run_tis(rt: &impl Print, heap: Global, words: &[&str]) -> Result<(), Stop
     set_numbers(settings, &mut cells[..count])?;
     let steps = steps_of(&trace, count);
     print!(rt; "{}", steps_text(heap, "tis", steps)?)?;
-    match read_tis(&tis_code(), &Qam, constellation, &cells) {
-        Ok(tis) => println!(rt;
-            "tis: reads {} mended {}",
-            TisNumbers(tis.stated),
-            tis.mended
-        )?,
-        Err(fault) => println!(rt; "tis: {}", Refused(FrameFault::Tis(fault).into()))?,
-    }
+    print_read(rt, constellation, &cells)?;
     Ok(())
 }
