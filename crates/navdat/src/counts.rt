@@ -3,7 +3,7 @@ use desk::numbers::count;
 use desk::trouble::Trouble;
 use desk::words::exactly;
 
-pub fn only_count(words: &[&str]) -> Result<usize, Trouble> {
+pub(crate) fn only_count(words: &[&str]) -> Result<usize, Trouble> {
     let [word] = exactly::<_, 1>(words)?;
     count(word)
 }

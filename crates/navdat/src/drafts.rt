@@ -8,7 +8,7 @@ use lineup::asked::Asked;
 use lineup::line_up::StaircaseLineUp;
 use std::alloc::Global;
 
-pub fn run_plan(
+pub(crate) fn run_plan(
     rt: &impl Print,
     heap: Global,
     plan: &mut Vec<u8>,
@@ -19,7 +19,7 @@ pub fn run_plan(
     Ok(())
 }
 
-pub fn run_exponents(
+pub(crate) fn run_exponents(
     rt: &impl Print,
     heap: Global,
     draft: &mut Vec<i16>,
@@ -46,7 +46,7 @@ fn asked<'a>(words: &[&str], plan: &'a [u8], exponents: &'a [i16]) -> Result<Ask
     })
 }
 
-pub fn run_fill(
+pub(crate) fn run_fill(
     rt: &impl Print,
     line_up: &mut StaircaseLineUp,
     plan: &[u8],

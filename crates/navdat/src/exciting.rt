@@ -19,7 +19,7 @@ fn print_done(rt: &impl Print, name: &str, answer: Result<(), Refusal>) -> io::R
     }
 }
 
-pub fn run_exciter(rt: &impl Print, held: &mut Held, words: &[&str]) -> Result<(), Stop> {
+pub(crate) fn run_exciter(rt: &impl Print, held: &mut Held, words: &[&str]) -> Result<(), Stop> {
     let [] = exactly::<_, 0>(words)?;
     held.exciter = Exciter::new(held.heap, held.channel, held.line_up.clone()?)?;
     held.numbers = held.line_up.plan().len().saturating_mul(2);
@@ -27,7 +27,7 @@ pub fn run_exciter(rt: &impl Print, held: &mut Held, words: &[&str]) -> Result<(
     Ok(())
 }
 
-pub fn run_station(
+pub(crate) fn run_station(
     rt: &impl Print,
     exciter: &mut NavdatExciter,
     words: &[&str],
@@ -43,7 +43,7 @@ pub fn run_station(
     Ok(())
 }
 
-pub fn run_load(
+pub(crate) fn run_load(
     rt: &impl Print,
     heap: Global,
     exciter: &mut NavdatExciter,
@@ -63,7 +63,7 @@ fn size_of(words: &[&str], usual: usize) -> Result<usize, Trouble> {
 }
 
 // The sent frame joins the list; a refused send leaves the list as it was.
-pub fn run_send(rt: &impl Print, held: &mut Held, words: &[&str]) -> Result<(), Stop> {
+pub(crate) fn run_send(rt: &impl Print, held: &mut Held, words: &[&str]) -> Result<(), Stop> {
     let mut numbers = vec![in held.heap; 0i16; size_of(words, held.numbers)?]?;
     match held.exciter.send(&mut numbers) {
         Ok(()) => {
@@ -75,7 +75,11 @@ pub fn run_send(rt: &impl Print, held: &mut Held, words: &[&str]) -> Result<(), 
     Ok(())
 }
 
-pub fn run_clear(rt: &impl Print, exciter: &mut NavdatExciter, words: &[&str]) -> Result<(), Stop> {
+pub(crate) fn run_clear(
+    rt: &impl Print,
+    exciter: &mut NavdatExciter,
+    words: &[&str],
+) -> Result<(), Stop> {
     let [] = exactly::<_, 0>(words)?;
     print_done(rt, "clear", exciter.clear())?;
     Ok(())

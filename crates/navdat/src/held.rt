@@ -6,7 +6,7 @@ use std::alloc::{AllocError, Global};
 
 // A line-up and the drafts that it is filled from, an exciter, a receiver, and a list of frames.
 #[derive(Drop)]
-pub struct Held<'a> {
+pub(crate) struct Held<'a> {
     pub heap: Global,
     pub channel: &'a NavdatChannel,
     pub line_up: StaircaseLineUp,
@@ -21,7 +21,7 @@ pub struct Held<'a> {
 
 impl<'a> Held<'a> {
     // A new line-up, and an exciter and a receiver on it; the drafts and the list are empty.
-    pub fn new(heap: Global, channel: &'a NavdatChannel) -> Result<Self, AllocError> {
+    pub(crate) fn new(heap: Global, channel: &'a NavdatChannel) -> Result<Self, AllocError> {
         let line_up = StaircaseLineUp::new(heap)?;
         let (exciter, receiver) = navdat_pair(heap, channel, line_up.clone()?)?;
         Ok(Held {

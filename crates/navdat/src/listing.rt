@@ -7,13 +7,13 @@ use desk::trouble::Stop;
 use desk::words::exactly;
 use std::alloc::Global;
 
-pub fn run_copy(rt: &impl Print, frames: &mut Frames, words: &[&str]) -> Result<(), Stop> {
+pub(crate) fn run_copy(rt: &impl Print, frames: &mut Frames, words: &[&str]) -> Result<(), Stop> {
     let copy = frames.copy(only_count(words)?)?;
     println!(rt; "copy: frame {copy}")?;
     Ok(())
 }
 
-pub fn run_set(rt: &impl Print, frames: &mut Frames, words: &[&str]) -> Result<(), Stop> {
+pub(crate) fn run_set(rt: &impl Print, frames: &mut Frames, words: &[&str]) -> Result<(), Stop> {
     let [frame, place, value] = exactly::<_, 3>(words)?;
     let frame = count(frame)?;
     frames.set(frame, count(place)?, signed(value)?)?;
@@ -21,7 +21,7 @@ pub fn run_set(rt: &impl Print, frames: &mut Frames, words: &[&str]) -> Result<(
     Ok(())
 }
 
-pub fn run_resize(rt: &impl Print, frames: &mut Frames, words: &[&str]) -> Result<(), Stop> {
+pub(crate) fn run_resize(rt: &impl Print, frames: &mut Frames, words: &[&str]) -> Result<(), Stop> {
     let [frame, size] = exactly::<_, 2>(words)?;
     let frame = count(frame)?;
     frames.resize(frame, count(size)?)?;
@@ -29,7 +29,7 @@ pub fn run_resize(rt: &impl Print, frames: &mut Frames, words: &[&str]) -> Resul
     Ok(())
 }
 
-pub fn run_show(
+pub(crate) fn run_show(
     rt: &impl Print,
     heap: Global,
     frames: &Frames,

@@ -25,7 +25,7 @@ fn print_read(rt: &impl Print, cells: &[Cell; 14]) -> io::Result<()> {
 }
 
 // Runs the command's words, and prints nothing where one of them is wrong.
-pub fn run_mis(rt: &impl Print, heap: Global, words: &[&str]) -> Result<(), Stop> {
+pub(crate) fn run_mis(rt: &impl Print, heap: Global, words: &[&str]) -> Result<(), Stop> {
     let [o, t, d, settings @ ..] = words else {
         return Err(Trouble::TooFew.into());
     };

@@ -40,7 +40,7 @@ fn block_of(heap: Global, words: &[&str]) -> Result<Vec<u8>, Trouble> {
     Ok(block)
 }
 
-pub fn run_packet(rt: &impl Print, heap: Global, words: &[&str]) -> Result<(), Stop> {
+pub(crate) fn run_packet(rt: &impl Print, heap: Global, words: &[&str]) -> Result<(), Stop> {
     let block = block_of(heap, words)?;
     println!(rt; "packet: {}", hex::encode(heap, block)?)?;
     Ok(())
@@ -68,7 +68,7 @@ fn block_bytes(heap: Global, words: &[&str]) -> Result<Vec<u8>, Trouble> {
     Ok(block)
 }
 
-pub fn run_block(rt: &impl Print, heap: Global, words: &[&str]) -> Result<(), Stop> {
+pub(crate) fn run_block(rt: &impl Print, heap: Global, words: &[&str]) -> Result<(), Stop> {
     let block = block_bytes(heap, words)?;
     match read_packet(&block) {
         Ok(packet) => print_content(rt, heap, packet)?,

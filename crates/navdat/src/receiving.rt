@@ -9,7 +9,7 @@ use radio::{NavdatReceiver, Receiver, Taken};
 use std::alloc::Global;
 use std::io;
 
-pub fn run_receiver(rt: &impl Print, held: &mut Held, words: &[&str]) -> Result<(), Stop> {
+pub(crate) fn run_receiver(rt: &impl Print, held: &mut Held, words: &[&str]) -> Result<(), Stop> {
     let [] = exactly::<_, 0>(words)?;
     held.receiver = Receiver::new(held.heap, held.channel, held.line_up.clone()?)?;
     println!(rt; "receiver: new")?;
@@ -29,7 +29,7 @@ fn print_taken(rt: &impl Print, taken: Taken) -> io::Result<()> {
     )
 }
 
-pub fn run_take(
+pub(crate) fn run_take(
     rt: &impl Print,
     receiver: &mut NavdatReceiver,
     frames: &Frames,
@@ -44,7 +44,7 @@ pub fn run_take(
 }
 
 // The bytes are 255 where the message is not copied to.
-pub fn run_fetch(
+pub(crate) fn run_fetch(
     rt: &impl Print,
     heap: Global,
     receiver: &NavdatReceiver,

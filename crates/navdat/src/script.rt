@@ -65,7 +65,7 @@ fn run_text(rt: &impl Print, held: &mut Held, line: &[u8]) -> Result<(), Stop> {
 }
 
 // Runs one line, and prints what it does or what is wrong with it.
-pub fn run_line(rt: &impl Print, held: &mut Held, line: &[u8]) -> io::Result<()> {
+pub(crate) fn run_line(rt: &impl Print, held: &mut Held, line: &[u8]) -> io::Result<()> {
     match run_text(rt, held, line) {
         Err(Stop::Line(why)) => println!(rt; "error: {why}"),
         Err(Stop::Output(error)) => Err(error),

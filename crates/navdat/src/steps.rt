@@ -5,10 +5,12 @@ use desk::text::Steps;
 use modem::Trace;
 
 // The steps of a trace, with so many of its cells.
-pub fn steps_of<const BITS: usize, const MESSAGE: usize, const WORD: usize, const CELLS: usize>(
-    trace: &Trace<BITS, MESSAGE, WORD, CELLS>,
-    count: usize,
-) -> Steps<'_>
+pub(crate) fn steps_of<
+    const BITS: usize,
+    const MESSAGE: usize,
+    const WORD: usize,
+    const CELLS: usize,
+>(trace: &Trace<BITS, MESSAGE, WORD, CELLS>, count: usize) -> Steps<'_>
     requires { count ≤ CELLS }
 {
     let cells = &trace.cells[..];

@@ -38,7 +38,7 @@ fn print_read(
 }
 
 // Runs the command's words, and prints nothing where one of them is wrong.
-pub fn run_tis(rt: &impl Print, heap: Global, words: &[&str]) -> Result<(), Stop> {
+pub(crate) fn run_tis(rt: &impl Print, heap: Global, words: &[&str]) -> Result<(), Stop> {
     let [o, d, r, s, h, m, u, q, settings @ ..] = words else {
         return Err(Trouble::TooFew.into());
     };
