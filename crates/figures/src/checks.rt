@@ -58,7 +58,7 @@ fn a_clone_holds_the_same(rt: HostRuntime) -> Result<(), Fail> {
     let layout = clone.layout().ok_or("no layout")?;
     assert_eq!(rt; layout.block_length(), 7);
     assert_eq!(rt; layout.data_cells(), 56);
-    let code = layout.code().clone()?;
+    let code = layout.code.clone()?;
     assert!(rt; code.checks_hold(&[false; 112]));
     Ok(())
 }

@@ -89,7 +89,7 @@ impl<
         ensures as_sent { ModeAsSent (sending_on M.SendingCode.own T.SendingCode.own D.SendingCode.own A.Constellation.own B.Constellation.own C.Constellation.own self.now layout.now.code.now) (mending_on M.MendingCode.own T.MendingCode.own D.MendingCode.own A.Constellation.own B.Constellation.own C.Constellation.own self.now layout.now.code.now) layout.now.plan.now layout.now.mode (cells_in received.entry.numbers.now) result }
     {
         let mis = self.hear_mis(received).map_err(FrameFault::Mis)?;
-        if mis.stated != layout.mode().mis() {
+        if mis.stated != layout.mode.mis() {
             return Err(FrameFault::OtherMode(mis.stated));
         }
         Ok(mis.mended)
@@ -105,7 +105,7 @@ impl<
         ensures told { StationTold (sending_on M.SendingCode.own T.SendingCode.own D.SendingCode.own A.Constellation.own B.Constellation.own C.Constellation.own self.now layout.now.code.now) (mending_on M.MendingCode.own T.MendingCode.own D.MendingCode.own A.Constellation.own B.Constellation.own C.Constellation.own self.now layout.now.code.now) layout.now.plan.now layout.now.mode (cells_in received.entry.numbers.now) result }
         ensures as_sent { StationAsSent (sending_on M.SendingCode.own T.SendingCode.own D.SendingCode.own A.Constellation.own B.Constellation.own C.Constellation.own self.now layout.now.code.now) (mending_on M.MendingCode.own T.MendingCode.own D.MendingCode.own A.Constellation.own B.Constellation.own C.Constellation.own self.now layout.now.code.now) layout.now.plan.now layout.now.mode (cells_in received.entry.numbers.now) result }
     {
-        let mode = layout.mode();
+        let mode = layout.mode;
         let tis = self.hear_tis(mode.tis, received).map_err(FrameFault::Tis)?;
         if tis.stated.coding != mode.coding() {
             return Err(FrameFault::OtherDataCoding);
@@ -132,7 +132,7 @@ impl<
         received.gather(CellKind::Data, cells);
         let modulation = Modulation {
             points: &self.data_points,
-            order: order_of(layout.mode().data),
+            order: order_of(layout.mode.data),
         };
         modulation.decide_bits(cells, words);
     }
@@ -152,9 +152,9 @@ impl<
     {
         let count = layout.words();
         let mut store = [false; MOST_WORD_BITS];
-        let words = &mut store[..count * layout.code().word_length()];
+        let words = &mut store[..count * layout.code.word_length()];
         self.hear_words(layout, received, words);
-        mend_words(layout.code(), count, words, messages)
+        mend_words(layout.code, count, words, messages)
     }
 
     // Mends the data words, and writes the block that they carry.
@@ -195,7 +195,7 @@ impl<
         self.read_block(layout, received, block)?;
         let packet = read_packet(block)?;
         Ok(Heard {
-            mode: layout.mode(),
+            mode: layout.mode,
             station: tis.stated,
             packet,
             mended: Mended {

@@ -60,11 +60,11 @@ impl<
         spread::<8>(block, messages);
         scramble(messages);
         let mut coded = [false; MOST_WORD_BITS];
-        let words = &mut coded[..count * layout.code().word_length()];
-        encode_words(layout.code(), count, messages, words);
+        let words = &mut coded[..count * layout.code.word_length()];
+        encode_words(layout.code, count, messages, words);
         let modulation = Modulation {
             points: &self.data_points,
-            order: order_of(layout.mode().data),
+            order: order_of(layout.mode.data),
         };
         modulation.map_bits(words, cells);
     }
@@ -81,7 +81,7 @@ impl<
         requires cells { length numbers.old ≡ 2 * length layout.now.plan.now }
         ensures { numbers.new ≡ numbers_of (block_frame (sending_on M.SendingCode.own T.SendingCode.own D.SendingCode.own A.Constellation.own B.Constellation.own C.Constellation.own self.now layout.now.code.now) layout.now.plan.now layout.now.mode station block.now) }
     {
-        let mode = layout.mode();
+        let mode = layout.mode;
         let mis = write_mis(&self.mis, &self.mis_points, mode.mis());
         let tis = write_tis(&self.tis, &self.tis_points, mode.tis, mode.tis(station));
         let mut store = [Cell::ORIGIN; MOST_DATA_CELLS];
@@ -92,6 +92,6 @@ impl<
             tis: &tis.cells,
             data,
         };
-        lay(layout.plan(), streams, numbers);
+        lay(layout.plan, streams, numbers);
     }
 }

@@ -12,31 +12,13 @@ use staircase::data_code::DataCode;
 // The cells suffice for what the streams carry, and the data words carry whole bytes.
 #[derive(Drop)]
 pub struct Layout<'a, D: SendingCode<Symbol = bool>> {
-    mode: Mode,
-    plan: &'a [CellKind],
-    code: &'a D,
+    pub mode: Mode,
+    pub plan: &'a [CellKind],
+    pub code: &'a D,
     ghost roomy: { Roomy mode plan.now (D.SendingCode.message_length code.now) (D.SendingCode.word_length code.now) },
 }
 
 impl<'a, D: SendingCode<Symbol = bool>> Layout<'a, D> {
-    pub fn mode(&self) -> Mode
-        ensures { result ≡ self.now.mode }
-    {
-        self.mode
-    }
-
-    pub fn plan(&self) -> &'a [CellKind]
-        ensures { result.now ≡ self.now.plan.now }
-    {
-        self.plan
-    }
-
-    pub fn code(&self) -> &'a D
-        ensures { result.now ≡ self.now.code.now }
-    {
-        self.code
-    }
-
     // The data words of a frame.
     pub fn words(&self) -> usize
         ensures count { result ≡ words_of self.now.mode }

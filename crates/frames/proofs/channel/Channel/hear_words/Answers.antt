@@ -19,7 +19,7 @@ decide_bits-requires g c =
     let n = g.D.SendingCode.word_length c.args.layout.now.code.now in
     let fit = words_fit c.args.layout.now.mode.«data» n (n / 2) c.args.layout.now.roomy.pairs in
     let half : length c.gather.new.cells ≡ n / 2 = c.gather.auto.cells ∙ rw (length-take, length-replicate) (omega arith) in
-    rw (c.requires.room, c.order_of.ensures, c.mode.ensures, half) fit
+    rw (c.requires.room, c.order_of.ensures, half) fit
 
 pub returns : goal.returns
 returns g c =
@@ -33,5 +33,5 @@ returns g c =
     let decided = g.C.Constellation.decided points (data_order mode.«data») in
     let size : length (take c.data_cells.result (replicate 2560 origin)) ≡ n / 2 = rw (length-take, length-replicate) (omega arith) in
     let cells : c.gather.new.cells ≡ take (n / 2) all = rw (size, c.requires.plan) at c.gather.ensures in
-    rw (c.order_of.ensures, c.mode.ensures, cells, c.requires.room) at c.decide_bits.ensures.value
+    rw (c.order_of.ensures, cells, c.requires.room) at c.decide_bits.ensures.value
     ∙ bits_front decided (cell_bits (data_order mode.«data»)) (g.met.C.Constellation.sized points (data_order mode.«data»)) (words_of mode * n) (n / 2) all fit

@@ -1,4 +1,4 @@
-use Rattle.std.proofs.Common.{sym, ◌∙◌, rules}
+use Rattle.std.proofs.Common.{sym, ◌∙◌, rules, refl}
 use Rattle.std.proofs.lemmas.Result.{err_from_is_err_and}
 use Rattle.bits.proofs.ByteLaws.{below_from}
 use Rattle.packets.specs.Packets.{carried}
@@ -81,15 +81,14 @@ returns-clause-answer g c =
     let l = c.args.layout.now in
     let packet = packet_told _ _ (known g c.args.self.now l.code.now) l.plan.now l.mode l.roomy (cells_in c.args.received.numbers.now)
     c.read_block.new.block (carried c.in_ok-packet.packet) (c.read_block.auto.block ∙ c.requires.block) c.in_ok-packet.ensures.exactly c.in_ok-read_block.ensures.told in
-    (c.mode.ensures, c.in_ok-mis.ensures.told, c.in_ok-tis.ensures.told, packet.0, packet.1)
+    (refl, c.in_ok-mis.ensures.told, c.in_ok-tis.ensures.told, packet.0, packet.1)
 
 pub returns-clause-reads_sent : goal.returns-clause-reads_sent
 returns-clause-reads_sent g c =
     let l = c.args.layout.now in
-    let e = c.mode.ensures in
-    rw e (reads_sent _ _ (known g c.args.self.now l.code.now) l.plan.now l.mode l.roomy (cells_in c.args.received.numbers.now)
+    reads_sent _ _ (known g c.args.self.now l.code.now) l.plan.now l.mode l.roomy (cells_in c.args.received.numbers.now)
     c.in_ok-mis.mis c.in_ok-tis.tis c.read_block.new.block (carried c.in_ok-packet.packet)
-    c.in_ok-mis.ensures.as_sent c.in_ok-tis.ensures.as_sent c.in_ok-read_block.ensures.as_sent c.in_ok-packet.ensures.exactly)
+    c.in_ok-mis.ensures.as_sent c.in_ok-tis.ensures.as_sent c.in_ok-read_block.ensures.as_sent c.in_ok-packet.ensures.exactly
 
 pub returns-clause-has_frame : goal.returns-clause-has_frame
 returns-clause-has_frame g c =

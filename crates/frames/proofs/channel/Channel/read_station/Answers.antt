@@ -12,7 +12,7 @@ pub returns-then-tis-coding-clause-told : goal.returns-then-tis-coding-clause-to
 returns-then-tis-coding-clause-told g c x passes =
     let heard : c.hear_tis.result ≡ Ok c.in_ok-tis.tis = search rules in
     let coding : c.coding.result ≡ coding_of c.args.layout.now.mode = search rules in
-    (x, passes, c.in_ok-tis.tis.stated, c.in_ok-tis.tis.mended, rw (heard, c.requires, c.mode-mode.ensures) at c.hear_tis.ensures.answer, rw coding at c.if-tis-coding.true)
+    (x, passes, c.in_ok-tis.tis.stated, c.in_ok-tis.tis.mended, rw (heard, c.requires) at c.hear_tis.ensures.answer, rw coding at c.if-tis-coding.true)
 
 pub returns-clause-told : goal.returns-clause-told
 returns-clause-told g c =
@@ -22,4 +22,4 @@ returns-clause-told g c =
     let given = symbols_of (g.B.Constellation.decided c.args.self.now.tis_points (tis_order mode.tis)) 29 (picked TisKind c.args.layout.now.plan.now (cells_in c.args.received.numbers.now)) in
     let heard : c.hear_tis.result ≡ Ok tis = search rules in
     let coding : tis.stated.coding ≡ coding_of mode = search rules in
-    subst (λ (m : List ℕ). Within (λ (x : ℕ). x) 9 (g.T.SendingCode.word code) (g.T.MendingCode.reach code) given m tis.mended) (message_stated tis.stated mode coding) (rw (heard, c.requires, c.mode-mode.ensures) at c.hear_tis.ensures.answer)
+    subst (λ (m : List ℕ). Within (λ (x : ℕ). x) 9 (g.T.SendingCode.word code) (g.T.MendingCode.reach code) given m tis.mended) (message_stated tis.stated mode coding) (rw (heard, c.requires) at c.hear_tis.ensures.answer)
