@@ -2,7 +2,7 @@
 ghost use Rattle.std.specs.Prelude.{◌≡◌, [], ◌∷◌, ◌++◌, All, IfOk, IsSome, OnOk, encode_utf8_all, map, unwrap_or};
 ghost use Rattle.std.specs.List.{flat_map};
 ghost use Rattle.std.specs.String.{string_bytes};
-ghost use Rattle.desk.specs.Texts.{bit_digit, cells_shown, numbers_of, step_line, steps_lines, symbols_shown};
+ghost use Rattle.desk.specs.Texts.{bit_digit, bits_shown, cells_shown, numbers_of, step_line, steps_lines, symbols_shown};
 
 use cells::Cell;
 use std::alloc::{AllocError, Global};
@@ -74,20 +74,54 @@ fn add_line(text: &mut String, name: &str, label: &str, shown: &str) -> Result<(
     writeln!(text, "{name}{label}{shown}")
 }
 
+// Adds a line of bits.
+fn add_bits(
+    heap: Global,
+    text: &mut String,
+    name: &str,
+    label: &str,
+    bits: &[bool],
+) -> Result<(), AllocError>
+    ensures { OnOk result (string_bytes text.new ≡ string_bytes text.old ++ step_line name.now label.now (bits_shown bits.now)) }
+{
+    add_line(text, name, label, &bits_text(heap, bits)?)
+}
+
+// Adds a line of symbols.
+fn add_symbols(
+    heap: Global,
+    text: &mut String,
+    name: &str,
+    label: &str,
+    symbols: &[u8],
+) -> Result<(), AllocError>
+    ensures { OnOk result (string_bytes text.new ≡ string_bytes text.old ++ step_line name.now label.now (symbols_shown symbols.now)) }
+{
+    add_line(text, name, label, &symbols_text(heap, symbols)?)
+}
+
+// Adds a line of cells.
+fn add_cells(
+    heap: Global,
+    text: &mut String,
+    name: &str,
+    label: &str,
+    cells: &[Cell],
+) -> Result<(), AllocError>
+    ensures { OnOk result (string_bytes text.new ≡ string_bytes text.old ++ step_line name.now label.now (cells_shown cells.now)) }
+{
+    add_line(text, name, label, &cells_text(heap, cells)?)
+}
+
 // A line for each step, with the stream's name.
 pub fn steps_text(heap: Global, name: &str, steps: Steps<'_>) -> Result<String, AllocError>
     ensures { IfOk result (λ text. string_bytes text ≡ steps_lines name.now steps.entry) }
 {
     let mut text = String::new(heap);
-    let record = bits_text(heap, steps.record)?;
-    add_line(&mut text, name, ": record ", &record)?;
-    let scrambled = bits_text(heap, steps.scrambled)?;
-    add_line(&mut text, name, ": scrambled ", &scrambled)?;
-    let message = symbols_text(heap, steps.message)?;
-    add_line(&mut text, name, ": message", &message)?;
-    let word = symbols_text(heap, steps.word)?;
-    add_line(&mut text, name, ": word", &word)?;
-    let cells = cells_text(heap, steps.cells)?;
-    add_line(&mut text, name, ": cells", &cells)?;
+    add_bits(heap, &mut text, name, ": record ", steps.record)?;
+    add_bits(heap, &mut text, name, ": scrambled ", steps.scrambled)?;
+    add_symbols(heap, &mut text, name, ": message", steps.message)?;
+    add_symbols(heap, &mut text, name, ": word", steps.word)?;
+    add_cells(heap, &mut text, name, ": cells", steps.cells)?;
     Ok(text)
 }
