@@ -4,3 +4,4 @@ mod Lists
 mod Naming
 mod Parsing
 mod Printing
+mod WordByWord
