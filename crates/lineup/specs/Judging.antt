@@ -8,7 +8,7 @@ use Rattle.lineup.specs.declared.asked.Asked.{Asked as AskedParts}
 use Rattle.lineup.specs.declared.kind.CellKind.{CellKind}
 use Rattle.lineup.specs.declared.mode.Mode.{Mode}
 use Rattle.lineup.specs.Kinds.{plan_bytes}
-use Rattle.lineup.specs.LineUps.{Asked, Pass8, Refuses, asked}
+use Rattle.lineup.specs.LineUps.{Asked, Pass4, Pass8, Refuses, asked}
 
 -- what a call asks for
 abbrev pub asked_by : AskedParts → Asked
@@ -23,6 +23,11 @@ Names m a =
 -- a shape has the numbers that are asked for
 abbrev pub Forms : Shape → Asked → Type 0
 Forms s a = (s.lift ≡ a.lift) × (s.rows ≡ a.rows) × (s.columns ≡ a.columns)
+
+-- the mode of what passes the first four, or the refusal
+abbrev pub FrameJudged : Asked → Result Mode Refusal → Type 0
+FrameJudged a (Ok m) = Pass4 a × Names m a
+FrameJudged a (Err refusal) = Refuses a refusal
 
 -- the mode and the exponents of what passes all eight, or the refusal
 abbrev pub Judged : Asked → Result (Mode × Exponents) Refusal → Type 0

@@ -37,7 +37,7 @@ fn refusal_for(fault: ExponentsFault) -> Refusal
 }
 
 impl<'a> Asked<'a> {
-    ghost use Rattle.lineup.specs.Judging.{asked_by, Forms, Judged, Names};
+    ghost use Rattle.lineup.specs.Judging.{asked_by, Forms, FrameJudged, Judged, Names};
 
     // The mode of the four numbers, where each is in range.
     fn mode(&self) -> Result<Mode, UnknownNumber>
@@ -64,9 +64,9 @@ impl<'a> Asked<'a> {
         fits.then_some(shape)
     }
 
-    // The mode and the exponents of the code that are asked for, or why that is refused: the first reason that holds.
-    pub(crate) fn judge(&self) -> Result<(Mode, Exponents<'a>), Refusal>
-        ensures { Judged (asked_by self.now) result }
+    // The mode, where its numbers are in range and the plan fits it.
+    fn frame(&self) -> Result<Mode, Refusal>
+        ensures { FrameJudged (asked_by self.now) result }
     {
         let mode = self.mode().map_err(|_| Refusal::ModeOutOfRange)?;
         if self.plan.len() != frame_cells(mode.occupancy) {
@@ -78,6 +78,14 @@ impl<'a> Asked<'a> {
         if !streams_fit(mode.tis, self.plan) {
             return Err(Refusal::FewStreamCells);
         }
+        Ok(mode)
+    }
+
+    // The mode and the exponents of the code that are asked for, or why that is refused: the first reason that holds.
+    pub(crate) fn judge(&self) -> Result<(Mode, Exponents<'a>), Refusal>
+        ensures { Judged (asked_by self.now) result }
+    {
+        let mode = self.frame()?;
         let shape = self.shape(mode.rate).ok_or(Refusal::CodeShape)?;
         let exponents = Exponents::new(shape, self.exponents).map_err(refusal_for)?;
         if !block_fits(mode.data, shape) {

@@ -1,6 +1,4 @@
-use Rattle.std.proofs.Common.{◌≡◌, length, rules}
-use Rattle.std.proofs.lemmas.Bool.{eq-eqb}
-use Rattle.lineup.specs.LineUps.{cells_of}
+use Rattle.std.proofs.Common.{◌≡◌, rules}
 use Rattle.lineup.proofs.Sizes.{known_same}
 use Rattle.lineup.proofs.asked.Asked.judge.Goals as goal
 
@@ -11,7 +9,7 @@ returns-then-not-data_fits c =
     let lift : exponents.shape.lift ≡ a.lift = search rules in
     let values : exponents.values.now ≡ a.exponents.now = search rules in
     let known = known_same lift values exponents.filled.1 in
-    (((((((search rules, search rules), search rules), search rules), search rules), known), search rules), search rules)
+    ((((c.in_ok-mode.ensures.0, search rules), known), search rules), search rules)
 
 pub returns : goal.returns
 returns c =
@@ -20,5 +18,4 @@ returns c =
     let lift : exponents.shape.lift ≡ a.lift = search rules in
     let values : exponents.values.now ≡ a.exponents.now = search rules in
     let known = known_same lift values exponents.filled.1 in
-    let whole = eq-eqb (length a.plan.now) (cells_of a.occupancy) (search rules) in
-    ((((((((search rules, whole), search rules), search rules), search rules), known), search rules), search rules), search rules, search rules, search rules)
+    (((((c.in_ok-mode.ensures.0, search rules), known), search rules), search rules), search rules, search rules, values)
