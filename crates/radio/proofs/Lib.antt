@@ -1,5 +1,6 @@
 pub mod Blocks
 pub mod Calls
+pub mod Hearings
 pub mod Takings
 pub mod RunsLift
 pub mod Promised

@@ -11,7 +11,7 @@ use crate::next::AROUND_DATA;
 use cells::Constellation;
 use codes::lengths::FixedCode;
 use codes::words::MendingCode;
-use frames::{Channel, ReceivedCells};
+use frames::{Channel, Heard, ReceivedCells};
 use lineup::line_up::LineUp;
 use messages::Collector;
 use packets::MOST_BLOCK;
@@ -45,6 +45,7 @@ impl<
     C: Constellation,
 > Receiver<'a, M, T, D, A, B, C> {
     ghost use Rattle.radio.specs.Lines.{line_on};
+    ghost use Rattle.radio.specs.Hearing.{Hears, heard};
     ghost use Rattle.radio.specs.ReceiverCalls.{Fetches, Takes, new_receiver};
     ghost use Rattle.radio.specs.ReceiverStates.{receiver_state};
 
@@ -65,15 +66,26 @@ impl<
         })
     }
 
+    // What is read of a frame, or why it is refused. The packet's data stand in `store`.
+    fn read<'b>(
+        &self,
+        numbers: &[i16],
+        store: &'b mut [u8; MOST_BLOCK],
+    ) -> Result<Heard<'b>, Refusal>
+        ensures { Hears (receiver_state self.now) numbers.now (heard result) }
+    {
+        let layout = self.line_up.layout().ok_or(Refusal::EmptyLineUp)?;
+        let received = ReceivedCells::new(layout.plan(), numbers).ok_or(Refusal::SliceLength)?;
+        let block = &mut store[..layout.block_length()];
+        Ok(self.channel.read_frame(&layout, received, block)?)
+    }
+
     // Takes a frame, two numbers a cell.
     pub fn take(&mut self, numbers: &[i16]) -> Result<Taken, Refusal>
         ensures { Takes (receiver_state self.old) (receiver_state self.new) numbers.now result }
     {
-        let layout = self.line_up.layout().ok_or(Refusal::EmptyLineUp)?;
-        let received = ReceivedCells::new(layout.plan(), numbers).ok_or(Refusal::SliceLength)?;
         let mut store = [0; MOST_BLOCK];
-        let block = &mut store[..layout.block_length()];
-        let heard = self.channel.read_frame(&layout, received, block)?;
+        let heard = self.read(numbers, &mut store)?;
         let placing = self.collector.take(heard.packet)?;
         Ok(Taken {
             placing,
