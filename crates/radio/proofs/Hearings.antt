@@ -1,7 +1,8 @@
 -- What is heard of a frame, from what was read. Assumes nothing.
-use Rattle.std.proofs.Common.{◌≡◌, ◌*◌, List, length, ℤ, Some, Result, sym, subst}
-use Rattle.std.proofs.lemmas.Bool.{eq-eqb}
+use Rattle.std.proofs.Common.{◌≡◌, ◌≢◌, ◌*◌, false, List, length, ℤ, Some, Err, Result, refl, sym, subst}
+use Rattle.std.proofs.lemmas.Bool.{eq-eqb, ne_eqb}
 use Rattle.refusals.specs.declared.Refusal.{Refusal}
+use Rattle.refusals.specs.declared.Refusal.TheVariants.{SliceLength}
 use Rattle.frames.specs.Frames.{Sending}
 use Rattle.frames.specs.Laying.{cells_in}
 use Rattle.frames.specs.Reading.{FrameAnswer, HasFrame, Mending, ReadsSent, Told}
@@ -9,7 +10,7 @@ use Rattle.frames.specs.declared.fault.FrameFault.{FrameFault}
 use Rattle.lineup.specs.declared.kind.CellKind.{CellKind}
 use Rattle.lineup.specs.declared.mode.Mode.{Mode}
 use Rattle.radio.specs.Hearing.{Hears, HearsLine, HearsSlice, refused}
-use Rattle.radio.specs.Lines.{Line}
+use Rattle.radio.specs.Lines.{Line, paired}
 use Rattle.radio.specs.ReceiverCalls.{Reads, ReceiverState}
 
 -- what was read by a copy of the plan, of the code and of the numbers
@@ -28,3 +29,13 @@ hears_read s m numbers answer r e two reads is =
           subst (λ o. HearsLine o s numbers r) (sym e)
           (subst (λ b. HearsSlice b m s numbers r) (sym (eq-eqb _ _ two)) (answer, reads, is));
     }
+
+-- a filled line-up and another number of numbers
+pub hears_other_length : (s : ReceiverState) (m : Mode) (numbers : List ℤ) (p q : List CellKind) → s.line.mode ≡ Some m → p ≡ q → q ≡ s.line.plan → length numbers ≢ 2 * length p → Hears s numbers (Err SliceLength)
+hears_other_length s m numbers p q e copy plan other =
+    let not : paired s.line (length numbers) ≡ false = ne_eqb _ _ (rw (copy, plan) at other) in
+    record { hears = subst (λ o. HearsLine o s numbers (Err SliceLength)) (sym e) (subst (λ b. HearsSlice b m s numbers (Err SliceLength)) (sym not) refl) }
+
+-- two numbers for each cell of a copy of the plan
+pub two_each : {p q r l : List CellKind} {n numbers : List ℤ} → p ≡ q → q ≡ r → r ≡ l → n ≡ numbers → length n ≡ 2 * length p → length numbers ≡ 2 * length l
+two_each a b c d two = rw (← c, ← b, ← a, ← d) two

@@ -99,11 +99,15 @@ impl<
     pub fn send(&mut self, numbers: &mut [i16]) -> Result<(), Refusal>
         ensures { Sends (exciter_state self.old) (exciter_state self.new) numbers.old numbers.new result }
     {
-        let layout = self.line_up.layout().ok_or(Refusal::EmptyLineUp)?;
+        let Some(layout) = self.line_up.layout() else {
+            return Err(Refusal::EmptyLineUp);
+        };
         if !self.sender.is_loaded() {
             return Err(Refusal::NothingLoaded);
         }
-        let station = self.station.ok_or(Refusal::NoStation)?;
+        let Some(station) = self.station else {
+            return Err(Refusal::NoStation);
+        };
         if numbers.len() != 2 * layout.plan().len() {
             return Err(Refusal::SliceLength);
         }

@@ -74,8 +74,12 @@ impl<
     ) -> Result<Heard<'b>, Refusal>
         ensures { Hears (receiver_state self.now) numbers.now (heard result) }
     {
-        let layout = self.line_up.layout().ok_or(Refusal::EmptyLineUp)?;
-        let received = ReceivedCells::new(layout.plan(), numbers).ok_or(Refusal::SliceLength)?;
+        let Some(layout) = self.line_up.layout() else {
+            return Err(Refusal::EmptyLineUp);
+        };
+        let Some(received) = ReceivedCells::new(layout.plan(), numbers) else {
+            return Err(Refusal::SliceLength);
+        };
         let block = &mut store[..layout.block_length()];
         Ok(self.channel.read_frame(&layout, received, block)?)
     }

@@ -1,4 +1,4 @@
-use Rattle.std.proofs.Common.{◌≡◌, ℕ, ◌*◌, length, length-take, replicate, take, vec_items, Some, true, ap, arith, rules}
+use Rattle.std.proofs.Common.{◌≡◌, ℕ, ◌*◌, length, length-take, replicate, take, vec_items, true, ap, arith, rules}
 use lib.ListN.{length-replicate}
 use Rattle.std.proofs.lemmas.Bool.{eq-eqb}
 use Rattle.lineup.specs.Layouts.{block_length_of}
@@ -11,22 +11,21 @@ use Rattle.radio.proofs.exciter.Exciter.send.Goals as goal
 pub returns : goal.returns
 returns g c =
     let s = c.args.self.now in
-    let layout = c.in_ok-layout.layout in
+    let layout = c.in-Some.layout in
     let k = g.D.SendingCode.message_length in
-    let laid : c.layout.result ≡ Some layout = search rules in
-    let parts = rw laid at c.layout.ensures.parts in
-    let block = rw laid at c.layout.ensures.block in
-    let station : s.station ≡ Some c.in_ok-station.station = search rules in
+    let parts = c.in-Some.ensures.parts in
+    let block = c.in-Some.ensures.block in
+    let station = c.in-Some-station.is in
     let loaded : is_loaded s.sender.progress ≡ true = search rules in
     let two : length c.args.numbers.now ≡ 2 * length (vec_items s.line_up.plan) = search rules in
     let most = layout.roomy.most in
     let size : length (take c.block_length.result (replicate {A = ℕ} 1440 0)) ≡ block_length_of layout.mode (k layout.code.now) = rw (length-take, length-replicate) (omega arith) in
     let next = c.in_ok-write_next.ensures in
     let frame = c.write_frame.ensures in (
-      passes_send s.line_up.mode (is_loaded s.sender.progress) s.station _ layout.mode c.in_ok-station.station parts.0 loaded station (eq-eqb _ _ two),
+      passes_send s.line_up.mode (is_loaded s.sender.progress) s.station _ layout.mode c.in-Some-station.station parts.0 loaded station (eq-eqb _ _ two),
       record {
         mode = layout.mode;
-        station = c.in_ok-station.station;
+        station = c.in-Some-station.station;
         has_mode = parts.0;
         has_station = station;
         is_frame = rw (next.2, size, parts.1, parts.2) at frame;

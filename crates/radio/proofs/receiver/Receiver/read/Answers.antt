@@ -1,4 +1,4 @@
-use Rattle.std.proofs.Common.{◌≡◌, ◌*◌, length, vec_items, Some, Err, Result, refl, sym, ap, ◌∙◌, rules}
+use Rattle.std.proofs.Common.{◌≡◌, Err, Result, refl, sym, ap, ◌∙◌, rules}
 use Rattle.refusals.specs.declared.Refusal.{Refusal}
 use Rattle.frames.specs.Faults.{refusal_of}
 use Rattle.frames.specs.Frames.{Sending, sending_on}
@@ -9,7 +9,7 @@ use Rattle.frames.specs.declared.fault.FrameFault.{FrameFault}
 use Rattle.frames.specs.declared.reading.Heard.{Heard}
 use Rattle.radio.specs.Hearing.{heard, refused}
 use Rattle.radio.specs.ReceiverStates.{receiver_state}
-use Rattle.radio.proofs.Hearings.{hears_read, reads_copy}
+use Rattle.radio.proofs.Hearings.{hears_other_length, hears_read, reads_copy, two_each}
 use Rattle.radio.proofs.receiver.Receiver.read.Given as given
 use Rattle.radio.proofs.receiver.Receiver.read.Goals as goal
 
@@ -24,36 +24,36 @@ module _ (g : given.Over) (channel : Channel g.row.M.Denot g.row.T.Denot g.row.A
   abbrev mends : g.row.D.Denot → Mending
   mends = mending_on g.M.MendingCode g.T.MendingCode g.D.MendingCode g.A.Constellation g.B.Constellation g.C.Constellation channel
 
+pub returns-in_default-new : goal.returns-in_default-new
+returns-in_default-new g c =
+    let s = c.args.self.now in
+    let layout = c.in-Some.layout in
+    let parts = c.in-Some.ensures.parts in
+    hears_other_length (receiver_state s) layout.mode c.args.numbers.now c.plan.result.now layout.plan.now parts.0 c.plan.ensures parts.1 c.in_default-new.ensures
+
 pub returns-in_err-read_frame : goal.returns-in_err-read_frame
 returns-in_err-read_frame g c =
     let s = c.args.self.now in
-    let layout = c.in_ok-layout.layout in
-    let received = c.in_ok-received.received in
+    let layout = c.in-Some.layout in
+    let received = c.in-Some-new.received in
     let answer = c.read_frame.result in
-    let fault = c.in_err-read_frame.field-0.0 in
-    let laid : c.layout.result ≡ Some layout = search rules in
-    let parts = rw laid at c.layout.ensures.parts in
-    let made : c.new.result ≡ Some received = search rules in
-    let same = rw made at c.new.ensures in
-    let two : length c.args.numbers.now ≡ 2 * length (vec_items s.line_up.plan) = search rules in
-    let is : c.from_residual-in_err-read_frame.result ≡ Err (refusal_of fault) = search rules in
+    let parts = c.in-Some.ensures.parts in
+    let same = c.in-Some-new.ensures in
+    let is : c.from_residual.result ≡ Err (refusal_of c.in_err-read_frame.field-0.0) = search rules in
     let e = c.read_frame.ensures in
-    hears_read (receiver_state s) layout.mode c.args.numbers.now (told answer) _ parts.0 two
+    hears_read (receiver_state s) layout.mode c.args.numbers.now (told answer) _ parts.0 (two_each same.0 c.plan.ensures parts.1 same.1 received.pairs)
     (reads_copy (sends g s.channel.now) (mends g s.channel.now) layout.mode (told answer) _ s.line_up.code layout.code.now layout.plan.now c.args.numbers.now received.numbers.now refl parts.2 parts.1 same.1 e.answer e.reads_sent e.has_frame)
-    (ap heard is ∙ sym (ap refused_told (c.in_err-read_frame.was)))
+    (ap heard is ∙ sym (ap refused_told c.in_err-read_frame.was))
 
 pub returns : goal.returns
 returns g c =
     let s = c.args.self.now in
-    let layout = c.in_ok-layout.layout in
-    let received = c.in_ok-received.received in
+    let layout = c.in-Some.layout in
+    let received = c.in-Some-new.received in
     let answer = c.read_frame.result in
-    let laid : c.layout.result ≡ Some layout = search rules in
-    let parts = rw laid at c.layout.ensures.parts in
-    let made : c.new.result ≡ Some received = search rules in
-    let same = rw made at c.new.ensures in
-    let two : length c.args.numbers.now ≡ 2 * length (vec_items s.line_up.plan) = search rules in
+    let parts = c.in-Some.ensures.parts in
+    let same = c.in-Some-new.ensures in
     let e = c.read_frame.ensures in
-    hears_read (receiver_state s) layout.mode c.args.numbers.now (told answer) _ parts.0 two
+    hears_read (receiver_state s) layout.mode c.args.numbers.now (told answer) _ parts.0 (two_each same.0 c.plan.ensures parts.1 same.1 received.pairs)
     (reads_copy (sends g s.channel.now) (mends g s.channel.now) layout.mode (told answer) _ s.line_up.code layout.code.now layout.plan.now c.args.numbers.now received.numbers.now refl parts.2 parts.1 same.1 e.answer e.reads_sent e.has_frame)
-    (sym (ap refused_told (c.in_ok-read_frame.was)))
+    (sym (ap refused_told c.in_ok-read_frame.was))
