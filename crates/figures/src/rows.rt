@@ -11,7 +11,7 @@ pub struct Row {
     pub checks: &'static str,
 }
 
-pub static ROWS: [Row; 26] = [
+pub static ROWS: &[Row] = &[
     Row {
         lift: 2,
         rows: 3,

@@ -31,11 +31,11 @@ hears_read s m numbers answer r e two reads is =
     }
 
 -- a filled line-up and another number of numbers
-pub hears_other_length : (s : ReceiverState) (m : Mode) (numbers : List ℤ) (p q : List CellKind) → s.line.mode ≡ Some m → p ≡ q → q ≡ s.line.plan → length numbers ≢ 2 * length p → Hears s numbers (Err SliceLength)
-hears_other_length s m numbers p q e copy plan other =
-    let not : paired s.line (length numbers) ≡ false = ne_eqb _ _ (rw (copy, plan) at other) in
+pub hears_other_length : (s : ReceiverState) (m : Mode) (numbers : List ℤ) (p : List CellKind) → s.line.mode ≡ Some m → p ≡ s.line.plan → length numbers ≢ 2 * length p → Hears s numbers (Err SliceLength)
+hears_other_length s m numbers p e plan other =
+    let not : paired s.line (length numbers) ≡ false = ne_eqb _ _ (rw plan at other) in
     record { hears = subst (λ o. HearsLine o s numbers (Err SliceLength)) (sym e) (subst (λ b. HearsSlice b m s numbers (Err SliceLength)) (sym not) refl) }
 
 -- two numbers for each cell of a copy of the plan
-pub two_each : {p q r l : List CellKind} {n numbers : List ℤ} → p ≡ q → q ≡ r → r ≡ l → n ≡ numbers → length n ≡ 2 * length p → length numbers ≡ 2 * length l
-two_each a b c d two = rw (← c, ← b, ← a, ← d) two
+pub two_each : {p q l : List CellKind} {n numbers : List ℤ} → p ≡ q → q ≡ l → n ≡ numbers → length n ≡ 2 * length p → length numbers ≡ 2 * length l
+two_each a b c two = rw (← b, ← a, ← c) two

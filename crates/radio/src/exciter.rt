@@ -108,7 +108,7 @@ impl<
         let Some(station) = self.station else {
             return Err(Refusal::NoStation);
         };
-        if numbers.len() != 2 * layout.plan().len() {
+        if numbers.len() != 2 * layout.plan.len() {
             return Err(Refusal::SliceLength);
         }
         let mut store = [0; MOST_BLOCK];

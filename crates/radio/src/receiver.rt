@@ -77,7 +77,7 @@ impl<
         let Some(layout) = self.line_up.layout() else {
             return Err(Refusal::EmptyLineUp);
         };
-        let Some(received) = ReceivedCells::new(layout.plan(), numbers) else {
+        let Some(received) = ReceivedCells::new(layout.plan, numbers) else {
             return Err(Refusal::SliceLength);
         };
         let block = &mut store[..layout.block_length()];

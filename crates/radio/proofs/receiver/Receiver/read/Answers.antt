@@ -29,7 +29,7 @@ returns-in_default-new g c =
     let s = c.args.self.now in
     let layout = c.in-Some.layout in
     let parts = c.in-Some.ensures.parts in
-    hears_other_length (receiver_state s) layout.mode c.args.numbers.now c.plan.result.now layout.plan.now parts.0 c.plan.ensures parts.1 c.in_default-new.ensures
+    hears_other_length (receiver_state s) layout.mode c.args.numbers.now layout.plan.now parts.0 parts.1 c.in_default-new.ensures
 
 pub returns-in_err-read_frame : goal.returns-in_err-read_frame
 returns-in_err-read_frame g c =
@@ -41,7 +41,7 @@ returns-in_err-read_frame g c =
     let same = c.in-Some-new.ensures in
     let is : c.from_residual.result ≡ Err (refusal_of c.in_err-read_frame.field-0.0) = search rules in
     let e = c.read_frame.ensures in
-    hears_read (receiver_state s) layout.mode c.args.numbers.now (told answer) _ parts.0 (two_each same.0 c.plan.ensures parts.1 same.1 received.pairs)
+    hears_read (receiver_state s) layout.mode c.args.numbers.now (told answer) _ parts.0 (two_each same.0 parts.1 same.1 received.pairs)
     (reads_copy (sends g s.channel.now) (mends g s.channel.now) layout.mode (told answer) _ s.line_up.code layout.code.now layout.plan.now c.args.numbers.now received.numbers.now refl parts.2 parts.1 same.1 e.answer e.reads_sent e.has_frame)
     (ap heard is ∙ sym (ap refused_told c.in_err-read_frame.was))
 
@@ -54,6 +54,6 @@ returns g c =
     let parts = c.in-Some.ensures.parts in
     let same = c.in-Some-new.ensures in
     let e = c.read_frame.ensures in
-    hears_read (receiver_state s) layout.mode c.args.numbers.now (told answer) _ parts.0 (two_each same.0 c.plan.ensures parts.1 same.1 received.pairs)
+    hears_read (receiver_state s) layout.mode c.args.numbers.now (told answer) _ parts.0 (two_each same.0 parts.1 same.1 received.pairs)
     (reads_copy (sends g s.channel.now) (mends g s.channel.now) layout.mode (told answer) _ s.line_up.code layout.code.now layout.plan.now c.args.numbers.now received.numbers.now refl parts.2 parts.1 same.1 e.answer e.reads_sent e.has_frame)
     (sym (ap refused_told c.in_ok-read_frame.was))
