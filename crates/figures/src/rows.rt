@@ -11,7 +11,7 @@ pub struct Row {
     pub checks: &'static str,
 }
 
-pub static ROWS: &[Row] = &[
+pub static ROWS: [Row; 26] = [
     Row {
         lift: 2,
         rows: 3,

@@ -40,7 +40,7 @@ fn check_row(rt: &impl Abort, heap: Global, code: &Staircase, row: &Row) -> Resu
 #[test]
 fn words_of_the_model(rt: HostRuntime) -> Result<(), Fail> {
     let mut code = Staircase::new(rt.alloc())?;
-    for row in ROWS {
+    for row in &ROWS {
         let shape = Shape::new(row.lift, row.rows, row.columns).ok_or("no shape")?;
         code.fill(Exponents::new(shape, row.exponents)?);
         check_row(&rt, rt.alloc(), &code, row)?;
