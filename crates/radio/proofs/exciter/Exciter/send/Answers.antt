@@ -14,7 +14,7 @@ abbrev twice : List CellKind → ℕ
 twice plan = 2 * length plan
 
 pub write_frame-requires-clause-cells : goal.write_frame-requires-clause-cells
-write_frame-requires-clause-cells g c = c.if-numbers-plan.false ∙ ap twice c.plan.ensures
+write_frame-requires-clause-cells g c = c.if-numbers-layout.false
 
 pub returns : goal.returns
 returns g c =
@@ -25,7 +25,7 @@ returns g c =
     let block = c.in-Some.ensures.block in
     let station = c.in-Some-station.is in
     let loaded : is_loaded s.sender.progress ≡ true = search rules in
-    let two : length c.args.numbers.now ≡ 2 * length (vec_items s.line_up.plan) = c.if-numbers-plan.false ∙ ap twice (c.plan.ensures ∙ parts.1) in
+    let two : length c.args.numbers.now ≡ 2 * length (vec_items s.line_up.plan) = c.if-numbers-layout.false ∙ ap twice parts.1 in
     let most = layout.roomy.most in
     let size : length (take c.block_length.result (replicate {A = ℕ} 1440 0)) ≡ block_length_of layout.mode (k layout.code.now) = rw (length-take, length-replicate) (omega arith) in
     let next = c.in_ok-write_next.ensures in
