@@ -9,9 +9,8 @@ use Rattle.frames.specs.Reading.{FrameAnswer, HasFrame, Mending, ReadsSent, Told
 use Rattle.frames.specs.declared.fault.FrameFault.{FrameFault}
 use Rattle.lineup.specs.declared.kind.CellKind.{CellKind}
 use Rattle.lineup.specs.declared.mode.Mode.{Mode}
-use Rattle.radio.specs.Hearing.{Hears, HearsLine, HearsSlice, refused}
 use Rattle.radio.specs.Lines.{Line, paired}
-use Rattle.radio.specs.ReceiverCalls.{Reads, ReceiverState}
+use Rattle.radio.specs.ReceiverCalls.{Hears, HearsLine, HearsSlice, Reads, ReceiverState, read_as}
 
 -- what was read by a copy of the plan, of the code and of the numbers
 module _ {D : Type 0} (air : D → Sending) (ear : D → Mending) (mode : Mode) (answer : Result Told FrameFault) where
@@ -22,7 +21,7 @@ module _ {D : Type 0} (air : D → Sending) (ear : D → Mending) (mode : Mode) 
 
 -- a filled line-up and two numbers for each cell
 pub hears_read : (s : ReceiverState) (m : Mode) (numbers : List ℤ) (answer : Result Told FrameFault) (r : Result Told Refusal) → s.line.mode ≡ Some m → length numbers ≡ 2 * length s.line.plan
-    → Reads s.line s.ear m (cells_in numbers) answer → r ≡ refused answer → Hears s numbers r
+    → Reads s.line s.ear m (cells_in numbers) answer → r ≡ read_as answer → Hears s numbers r
 hears_read s m numbers answer r e two reads is =
     record {
       hears =

@@ -5,7 +5,6 @@ use Rattle.cells.specs.declared.cell.Cell.{Cell}
 use Rattle.frames.specs.Frames.{frame_of}
 use Rattle.frames.specs.Laying.{cells_in, numbers_of}
 use Rattle.frames.specs.Reading.{Mending, Told, WithinReach, wrong_mis, wrong_tis}
-use Rattle.frames.specs.declared.fault.FrameFault.{FrameFault}
 use Rattle.lineup.specs.Layouts.{block_length_of}
 use Rattle.lineup.specs.declared.mode.Mode.{Mode}
 use Rattle.messages.specs.CollectorCalls.{Taking}
@@ -18,7 +17,7 @@ use Rattle.packets.specs.Packets.{Content, Fits}
 use Rattle.radio.specs.ExciterCalls.{ExciterState, NextFrame, first_of_load, first_of_send}
 use Rattle.radio.specs.Lines.{Line, paired}
 use Rattle.radio.specs.Promise.{IsFrame}
-use Rattle.radio.specs.ReceiverCalls.{ReceiverState, TakesLine, TakesSlice, TakesRead, Takes, taken_as, with_collector}
+use Rattle.radio.specs.ReceiverCalls.{HearsLine, HearsSlice, ReceiverState, Takes, TakesHeard, read_as, taken_as, with_collector}
 use Rattle.radio.specs.Runs.{Aired, Near, RadioHistory, RadioRun, start, station, load, load_refused, send, send_refused, clear, take_sent, take_refused, fetch, next_sent, placing_of, with_load, with_send, with_take}
 use Rattle.radio.specs.declared.answer.Taken.{Taken}
 
@@ -74,10 +73,10 @@ module _ (r u : ReceiverState) (f : Aired) (numbers : List ℤ) (answer : Result
       sound.frame.is_frame
       ∙ ap (λ m. frame_of r.line.air r.line.plan m f.station f.sent.packet) (same_mode sound.frame.mode near.mode (sym sound.frame.has_mode ∙ near.has_mode))
 
-  slice : TakesSlice true near.mode r u numbers answer
+  slice : HearsSlice true near.mode r numbers step.0
   slice =
-      subst (λ b. TakesSlice b near.mode r u numbers answer) near.two
-      (subst (λ o. TakesLine o r u numbers answer) near.has_mode step)
+      subst (λ b. HearsSlice b near.mode r numbers step.0) near.two
+      (subst (λ o. HearsLine o r numbers step.0) near.has_mode step.1.hears)
 
   read : slice.0 ≡ Ok (told r f numbers near f.cells)
   read =
@@ -88,13 +87,13 @@ module _ (r u : ReceiverState) (f : Aired) (numbers : List ℤ) (answer : Result
 
   pub taken : TookFrame
   taken =
-      let step = subst (λ x. TakesRead r u x answer) read slice.2 in
-      let what : placing_of answer ≡ step.0 = ap placing_of step.3 ∙ placing_back (told r f numbers near f.cells) step.0 in
+      let took = subst (λ x. TakesHeard r u x answer) (slice.2 ∙ ap read_as read) step.2 in
+      let what : placing_of answer ≡ took.0 = ap placing_of took.3 ∙ placing_back (told r f numbers near f.cells) took.0 in
       let same = sym what in
       record {
-        packet = subst (λ x. Taking r.collector u.collector f.sent.packet x) same step.1;
-        state = step.2;
-        answers = subst (λ x. answer ≡ taken_as (told r f numbers near f.cells) x) same step.3;
+        packet = subst (λ x. Taking r.collector u.collector f.sent.packet x) same took.1;
+        state = took.2;
+        answers = subst (λ x. answer ≡ taken_as (told r f numbers near f.cells) x) same took.3;
       }
 
 -- a take that is refused leaves everything as it was, or its packet is refused
@@ -102,22 +101,14 @@ abbrev pub Refused : ReceiverState → ReceiverState → Type 0
 Refused r u =
     (u ≡ r) ⊎ ((p : Content) × (x : Refusal) × Taking r.collector u.collector p (Err x) × (u ≡ with_collector r u.collector))
 
-module _ (r u : ReceiverState) (numbers : List ℤ) (x : Refusal) where
+module _ (r u : ReceiverState) (x : Refusal) where
   refused_as : (got : Told) (placing : Result Placing Refusal) → Taking r.collector u.collector got.stated.packet placing → u ≡ with_collector r u.collector → Err x ≡ taken_as got placing → Refused r u
   refused_as got (Ok p) step e q = cc
   refused_as got (Err y) step e q = inr (got.stated.packet, y, step, e)
 
-  refused_read : (a : Result Told FrameFault) → TakesRead r u a (Err x) → Refused r u
-  refused_read (Ok got) step = refused_as got step.0 step.1 step.2 step.3
-  refused_read (Err fault) step = inl step.1
-
-  refused_slice : (b : Bool) (m : Mode) → TakesSlice b m r u numbers (Err x) → Refused r u
-  refused_slice false m step = inl step.1
-  refused_slice true m step = refused_read step.0 step.2
-
-  refused_line : (o : Option Mode) → TakesLine o r u numbers (Err x) → Refused r u
-  refused_line None step = inl step.1
-  refused_line (Some m) step = refused_slice _ m step
+  refused_heard : (heard : Result Told Refusal) → TakesHeard r u heard (Err x) → Refused r u
+  refused_heard (Ok got) step = refused_as got step.0 step.1 step.2 step.3
+  refused_heard (Err e) step = inl step.1
 
 -- what is known of the line-ups and of the sent frames after a run, whatever else the calls change
 pub record Known (l : Line) (ear : Mending) (exciter receiver : Line) (hears : Mending) (sent : List Sent) (aired : List Aired) : Type 0 where
@@ -190,5 +181,5 @@ module _ (e₀ : ExciterState) (r₀ : ReceiverState) (l : Line) (ear : Mending)
         let took = taken r u f numbers answer (subst Blocks (sym g.1.receiver_line) blocks) (subst (λ x. Sound x f) (sym g.1.receiver_line) (g.1.frames f may.0)) near step in
         subst (λ x. Lifted e x (with_take h f answer)) (sym took.state) (take_packet g.0 f.sent may.1 u.collector (placing_of answer) took.packet, g.1)
     lifted (take_refused {e} {r} {h} run numbers u x step) =
-        refused_run e r u h (lifted run) (refused_line r u numbers x r.line.mode step)
+        refused_run e r u h (lifted run) (refused_heard r u x step.0 step.2)
     lifted (fetch run xs ys answer step) = lifted run

@@ -29,7 +29,7 @@ use Rattle.packets.specs.Packets.{Content, Fits}
 use Rattle.radio.specs.ExciterCalls.{ExciterState, Loads, Sends, new_exciter, send_refusal}
 use Rattle.radio.specs.Lines.{Line, paired}
 use Rattle.radio.specs.Promise.{RunsPromise, RunsShown}
-use Rattle.radio.specs.ReceiverCalls.{ReceiverState, Takes, TakesLine, TakesSlice, new_receiver, taken_as}
+use Rattle.radio.specs.ReceiverCalls.{HearsLine, HearsSlice, ReceiverState, Takes, new_receiver, taken_as}
 use Rattle.radio.specs.Runs.{Aired, Near, RadioHistory, RadioRun, load, next_sent, no_history, placing_of, send, start, station, take_sent, with_load, with_send, with_take}
 use Rattle.radio.specs.declared.answer.Taken.{Taken}
 use Rattle.radio.proofs.Reached.{Apart, reads_near, stating}
@@ -107,8 +107,15 @@ module _ (l : Line) (ear : Mending) (mode : Mode) (has_mode : l.mode ≡ Some mo
       let answer = taken_as told t.1 in (
         t.0,
         answer,
-        subst (λ o. TakesLine o (receiver c) (receiver t.0) (numbers p) answer) (sym has_mode)
-            (subst (λ b. TakesSlice b mode (receiver c) (receiver t.0) (numbers p) answer) (sym (two p)) (Ok told, reads, (t.1, t.2, refl, refl))),
+        (
+          Ok told,
+          record {
+            hears =
+                subst (λ o. HearsLine o (receiver c) (numbers p) (Ok told)) (sym has_mode)
+                (subst (λ b. HearsSlice b mode (receiver c) (numbers p) (Ok told)) (sym (two p)) (Ok told, reads, refl));
+          },
+          (t.1, t.2, refl, refl),
+        ),
       )
 
   abbrev d : ℕ

@@ -3,7 +3,6 @@ pub mod Lines
 pub mod NextBlock
 pub mod ReceiverCalls
 pub mod ReceiverStates
-pub mod Hearing
 pub mod ExciterStates
 pub mod Promise
 pub mod Runs

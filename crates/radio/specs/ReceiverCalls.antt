@@ -38,27 +38,36 @@ taken_as t (Ok placing) =
     Ok (record { placing = placing; mode = t.stated.mode; station = t.stated.station; mended = record { mis = t.mis_mended; tis = t.tis_mended } })
 taken_as t (Err e) = Err e
 
--- a frame that is read gives its packet to the collector; one that cannot be read leaves everything as it was
-abbrev pub TakesRead : (before after : ReceiverState) → Result Told FrameFault → Result Taken Refusal → Type 0
-TakesRead s t (Ok got) r =
-    (placing : Result Placing Refusal) × Taking s.collector t.collector got.stated.packet placing
-    × (t ≡ with_collector s t.collector) × (r ≡ taken_as got placing)
-TakesRead s t (Err fault) r = (r ≡ Err (refusal_of fault)) × (t ≡ s)
+-- what reading answers, a fault being a refusal
+abbrev pub read_as : Result Told FrameFault → Result Told Refusal
+read_as (Ok got) = Ok got
+read_as (Err fault) = Err (refusal_of fault)
 
 -- by whether the slice has two numbers a cell
-abbrev pub TakesSlice : Bool → Mode → (before after : ReceiverState) → List ℤ → Result Taken Refusal → Type 0
-TakesSlice false mode s t numbers r = (r ≡ Err SliceLength) × (t ≡ s)
-TakesSlice true mode s t numbers r =
-    (answer : Result Told FrameFault) × Reads s.line s.ear mode (cells_in numbers) answer × TakesRead s t answer r
+abbrev pub HearsSlice : Bool → Mode → ReceiverState → List ℤ → Result Told Refusal → Type 0
+HearsSlice false mode s numbers heard = heard ≡ Err SliceLength
+HearsSlice true mode s numbers heard =
+    (answer : Result Told FrameFault) × Reads s.line s.ear mode (cells_in numbers) answer × (heard ≡ read_as answer)
 
 -- by the mode of the line-up
-abbrev pub TakesLine : Option Mode → (before after : ReceiverState) → List ℤ → Result Taken Refusal → Type 0
-TakesLine None s t numbers r = (r ≡ Err EmptyLineUp) × (t ≡ s)
-TakesLine (Some mode) s t numbers r = TakesSlice (paired s.line (length numbers)) mode s t numbers r
+abbrev pub HearsLine : Option Mode → ReceiverState → List ℤ → Result Told Refusal → Type 0
+HearsLine None s numbers heard = heard ≡ Err EmptyLineUp
+HearsLine (Some mode) s numbers heard = HearsSlice (paired s.line (length numbers)) mode s numbers heard
+
+-- what is heard of a frame: what it states, or the first refusal that holds
+pub record Hears (s : ReceiverState) (numbers : List ℤ) (heard : Result Told Refusal) : Type 0 where
+  pub hears : HearsLine s.line.mode s numbers heard
+
+-- a frame that is heard gives its packet to the collector; one that is refused leaves everything as it was
+abbrev pub TakesHeard : (before after : ReceiverState) → Result Told Refusal → Result Taken Refusal → Type 0
+TakesHeard s t (Ok got) r =
+    (placing : Result Placing Refusal) × Taking s.collector t.collector got.stated.packet placing
+    × (t ≡ with_collector s t.collector) × (r ≡ taken_as got placing)
+TakesHeard s t (Err e) r = (r ≡ Err e) × (t ≡ s)
 
 -- take
 abbrev pub Takes : (before after : ReceiverState) → List ℤ → Result Taken Refusal → Type 0
-Takes s t numbers r = TakesLine s.line.mode s t numbers r
+Takes s t numbers r = (heard : Result Told Refusal) × Hears s numbers heard × TakesHeard s t heard r
 
 -- fetch
 abbrev pub Fetches : ReceiverState → (bytes bytes_after : List ℕ) → Result ℕ Refusal → Type 0

@@ -50,7 +50,7 @@ impl<
     ghost use Rattle.radio.specs.Lines.{line_on};
     ghost use Rattle.radio.specs.ExciterStates.{exciter_state};
 
-    // A new exciter on a line-up has no station and no message.
+    // A new exciter has no station and no message. It takes the line-up over: who keeps his own gives a clone.
     pub fn new(
         heap: Global,
         channel: &'a Channel<M, T, A, B, C>,

@@ -45,11 +45,10 @@ impl<
     C: Constellation,
 > Receiver<'a, M, T, D, A, B, C> {
     ghost use Rattle.radio.specs.Lines.{line_on};
-    ghost use Rattle.radio.specs.Hearing.{Hears, heard};
-    ghost use Rattle.radio.specs.ReceiverCalls.{Fetches, Takes, new_receiver};
-    ghost use Rattle.radio.specs.ReceiverStates.{receiver_state};
+    ghost use Rattle.radio.specs.ReceiverCalls.{Fetches, Hears, Takes, new_receiver};
+    ghost use Rattle.radio.specs.ReceiverStates.{heard, receiver_state};
 
-    // A new receiver on a line-up is empty.
+    // A new receiver is empty. It takes the line-up over: who keeps his own gives a clone.
     pub fn new(
         heap: Global,
         channel: &'a Channel<M, T, A, B, C>,

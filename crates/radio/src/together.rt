@@ -23,6 +23,7 @@ use lineup::line_up::LineUp;
 use staircase::data_code::DataCode;
 use std::alloc::{AllocError, Global};
 
+// The receiver has the line-up that is given, the exciter its clone.
 // The promise is over the frames of all exciters with the codes and constellations, and over every history of calls on the two;
 // where the line-up is filled there is a history in which a message of two pieces is reported complete.
 pub fn pair<

@@ -7,15 +7,15 @@ use Rattle.frames.specs.Tellings.{told}
 use Rattle.frames.specs.declared.channel.Channel.{Channel}
 use Rattle.frames.specs.declared.fault.FrameFault.{FrameFault}
 use Rattle.frames.specs.declared.reading.Heard.{Heard}
-use Rattle.radio.specs.Hearing.{heard, refused}
-use Rattle.radio.specs.ReceiverStates.{receiver_state}
+use Rattle.radio.specs.ReceiverCalls.{read_as}
+use Rattle.radio.specs.ReceiverStates.{heard, receiver_state}
 use Rattle.radio.proofs.Hearings.{hears_other_length, hears_read, reads_copy, two_each}
 use Rattle.radio.proofs.receiver.Receiver.read.Given as given
 use Rattle.radio.proofs.receiver.Receiver.read.Goals as goal
 
 -- what is heard, by what was read
-abbrev refused_told : Result Heard FrameFault → Result Told Refusal
-refused_told a = refused (told a)
+abbrev read_told : Result Heard FrameFault → Result Told Refusal
+read_told a = read_as (told a)
 
 module _ (g : given.Over) (channel : Channel g.row.M.Denot g.row.T.Denot g.row.A.Denot g.row.B.Denot g.row.C.Denot) where
   abbrev sends : g.row.D.Denot → Sending
@@ -43,7 +43,7 @@ returns-in_err-read_frame g c =
     let e = c.read_frame.ensures in
     hears_read (receiver_state s) layout.mode c.args.numbers.now (told answer) _ parts.0 (two_each same.0 parts.1 same.1 received.pairs)
     (reads_copy (sends g s.channel.now) (mends g s.channel.now) layout.mode (told answer) _ s.line_up.code layout.code.now layout.plan.now c.args.numbers.now received.numbers.now refl parts.2 parts.1 same.1 e.answer e.reads_sent e.has_frame)
-    (ap heard is ∙ sym (ap refused_told c.in_err-read_frame.was))
+    (ap heard is ∙ sym (ap read_told c.in_err-read_frame.was))
 
 pub returns : goal.returns
 returns g c =
@@ -56,4 +56,4 @@ returns g c =
     let e = c.read_frame.ensures in
     hears_read (receiver_state s) layout.mode c.args.numbers.now (told answer) _ parts.0 (two_each same.0 parts.1 same.1 received.pairs)
     (reads_copy (sends g s.channel.now) (mends g s.channel.now) layout.mode (told answer) _ s.line_up.code layout.code.now layout.plan.now c.args.numbers.now received.numbers.now refl parts.2 parts.1 same.1 e.answer e.reads_sent e.has_frame)
-    (sym (ap refused_told c.in_ok-read_frame.was))
+    (sym (ap read_told c.in_ok-read_frame.was))
