@@ -2,17 +2,17 @@
 use lineup::asked::Asked;
 use lineup::line_up::StaircaseLineUp;
 use radio::{navdat_channel, navdat_pair};
-use std::alloc::{AllocError, Global};
+use std::alloc::Global;
 use std::test::Fail;
 
 // 1 kHz at 4-QAM: 14 cells for the MIS, 102 for the TIS, and a code of 224 bits and 224 checks on 224 of the others.
-fn harbour(heap: Global) -> Result<StaircaseLineUp, AllocError> {
+fn harbour(heap: Global) -> Result<StaircaseLineUp, Fail> {
     let mut plan = [5; 345];
     plan[..14].fill(3);
     plan[14..116].fill(4);
     let mut line_up = StaircaseLineUp::new(heap)?;
-    // where this is refused the line-up stays empty, and every later call is refused
-    let _ = line_up.fill(Asked {
+    // where this is refused the line-up stays empty, and nothing is loaded, sent or taken on it
+    let filled = line_up.fill(Asked {
         occupancy: 0,
         tis: 0,
         data: 0,
@@ -23,6 +23,7 @@ fn harbour(heap: Global) -> Result<StaircaseLineUp, AllocError> {
         columns: 4,
         exponents: &[0; 16],
     });
+    filled.map_err(|_| "the line-up is refused")?;
     Ok(line_up)
 }
 

@@ -54,7 +54,7 @@ pub(crate) fn run_load(
     Ok(())
 }
 
-// How many numbers a frame is to have: those that the line-up's has, where no word says another count.
+// How many numbers a frame is to have: the usual count, unless a word says another.
 fn size_of(words: &[&str], usual: usize) -> Result<usize, Trouble> {
     if words.is_empty() {
         return Ok(usual);

@@ -20,7 +20,7 @@ pub(crate) struct Held<'a> {
 }
 
 impl<'a> Held<'a> {
-    // A new line-up, and an exciter and a receiver on it; the drafts and the list are empty.
+    // A new line-up, and an exciter and a receiver on copies of it; the drafts and the list are empty.
     pub(crate) fn new(heap: Global, channel: &'a NavdatChannel) -> Result<Self, AllocError> {
         let line_up = StaircaseLineUp::new(heap)?;
         let (exciter, receiver) = navdat_pair(heap, channel, line_up.clone()?)?;
