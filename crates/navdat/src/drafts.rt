@@ -1,4 +1,5 @@
 // `plan RUN…`, `exponents RUN…` and `fill O T D R L M K`: drafts, and the line-up that is filled from them.
+use crate::counts::four;
 use desk::numbers::unsigned;
 use desk::runs::{exponents, plan_bytes};
 use desk::shown::Refused;
@@ -33,11 +34,12 @@ pub(crate) fn run_exponents(
 // What the words and the drafts ask for.
 fn asked<'a>(words: &[&str], plan: &'a [u8], exponents: &'a [i16]) -> Result<Asked<'a>, Trouble> {
     let [o, t, d, r, l, m, k] = exactly::<_, 7>(words)?;
+    let [occupancy, tis, data, rate] = four([o, t, d, r])?;
     Ok(Asked {
-        occupancy: unsigned(o)?,
-        tis: unsigned(t)?,
-        data: unsigned(d)?,
-        rate: unsigned(r)?,
+        occupancy,
+        tis,
+        data,
+        rate,
         plan,
         lift: unsigned(l)?,
         rows: unsigned(m)?,

@@ -1,8 +1,7 @@
 // `exciter`, `station S H M D`, `load hex HEX`, `load ramp N`, `send`, `send N` and `clear`: the exciter's calls.
-use crate::counts::only_count;
+use crate::counts::{four, only_count};
 use crate::held::Held;
 use desk::loads::loaded_bytes;
-use desk::numbers::unsigned;
 use desk::shown::Refused;
 use desk::trouble::{Stop, Trouble};
 use desk::words::exactly;
@@ -32,9 +31,7 @@ pub(crate) fn run_station(
     exciter: &mut NavdatExciter,
     words: &[&str],
 ) -> Result<(), Stop> {
-    let [station, hour, minute, duration] = exactly::<_, 4>(words)?;
-    let (station, hour) = (unsigned(station)?, unsigned(hour)?);
-    let (minute, duration) = (unsigned(minute)?, unsigned(duration)?);
+    let [station, hour, minute, duration] = four(*exactly::<_, 4>(words)?)?;
     print_done(
         rt,
         "station",

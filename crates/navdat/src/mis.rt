@@ -7,10 +7,16 @@ use desk::shown::{ModeNumbers, Refused};
 use desk::text::steps_text;
 use desk::trouble::{Stop, Trouble};
 use frames::FrameFault;
-use modem::{read_mis, write_mis};
+use modem::{MisTrace, read_mis, write_mis};
 use reed_solomon::streams::mis as mis_code;
 use std::alloc::Global;
 use std::io;
+
+// Prints the steps.
+fn print_steps(rt: &impl Print, heap: Global, trace: &MisTrace) -> io::Result<()> {
+    let steps = steps_of(trace, trace.cells.len());
+    print!(rt; "{}", steps_text(heap, "mis", steps)?)
+}
 
 // Prints what reading the cells gives.
 fn print_read(rt: &impl Print, cells: &[Cell; 14]) -> io::Result<()> {
@@ -32,8 +38,7 @@ pub(crate) fn run_mis(rt: &impl Print, heap: Global, words: &[&str]) -> Result<(
     let trace = write_mis(&mis_code(), &Qam, mode(o, t, d)?);
     let mut cells = trace.cells;
     set_numbers(settings, &mut cells)?;
-    let steps = steps_of(&trace, trace.cells.len());
-    print!(rt; "{}", steps_text(heap, "mis", steps)?)?;
+    print_steps(rt, heap, &trace)?;
     print_read(rt, &cells)?;
     Ok(())
 }

@@ -18,17 +18,6 @@ fn words(heap: Global, line: &str) -> Result<Vec<&str>, AllocError> {
         .collect(heap)
 }
 
-// Runs a command that neither needs nor changes what is held.
-fn run_alone(rt: &impl Print, heap: Global, command: &str, words: &[&str]) -> Result<(), Stop> {
-    match command {
-        "mis" => run_mis(rt, heap, words),
-        "tis" => run_tis(rt, heap, words),
-        "packet" => run_packet(rt, heap, words),
-        "block" => run_block(rt, heap, words),
-        _ => Err(Trouble::NoCommand.into()),
-    }
-}
-
 // Runs the words of a line.
 fn run_words(rt: &impl Print, held: &mut Held, words: &[&str]) -> Result<(), Stop> {
     let [command, rest @ ..] = words else {
@@ -50,7 +39,11 @@ fn run_words(rt: &impl Print, held: &mut Held, words: &[&str]) -> Result<(), Sto
         "show" => run_show(rt, held.heap, &held.frames, rest),
         "take" => run_take(rt, &mut held.receiver, &held.frames, rest),
         "fetch" => run_fetch(rt, held.heap, &held.receiver, rest),
-        other => run_alone(rt, held.heap, other, rest),
+        "mis" => run_mis(rt, held.heap, rest),
+        "tis" => run_tis(rt, held.heap, rest),
+        "packet" => run_packet(rt, held.heap, rest),
+        "block" => run_block(rt, held.heap, rest),
+        _ => Err(Trouble::NoCommand.into()),
     }
 }
 

@@ -1,4 +1,6 @@
 // `tis O D R S H M U Q [I=V …]`: the TIS of a mode and a station, step by step, and what reading its cells gives.
+ghost use Rattle.std.specs.Prelude.{◌≤◌};
+
 use crate::steps::steps_of;
 use cells::{Cell, Qam};
 use desk::parts::{part, station};
@@ -7,7 +9,7 @@ use desk::shown::{Refused, TisNumbers};
 use desk::text::steps_text;
 use desk::trouble::{Stop, Trouble};
 use frames::FrameFault;
-use modem::{read_tis, write_tis};
+use modem::{TisTrace, read_tis, write_tis};
 use modes::{Tis, TisConstellation, data_coding};
 use reed_solomon::streams::tis as tis_code;
 use std::alloc::Global;
@@ -19,6 +21,13 @@ fn asked([o, d, r, s, h, m, u, q]: [&str; 8]) -> Result<(Tis, TisConstellation),
     let station = station(s, h, m, u)?;
     let tis = Tis::new(coding, station).ok_or(Trouble::OutOfRange)?;
     Ok((tis, part(q)?))
+}
+
+// Prints the steps, with so many of the cells.
+fn print_steps(rt: &impl Print, heap: Global, trace: &TisTrace, count: usize) -> io::Result<()>
+    requires { count ≤ 102 }
+{
+    print!(rt; "{}", steps_text(heap, "tis", steps_of(trace, count))?)
 }
 
 // Prints what reading the cells gives.
@@ -47,8 +56,7 @@ pub(crate) fn run_tis(rt: &impl Print, heap: Global, words: &[&str]) -> Result<(
     let count = constellation.cell_count();
     let mut cells = trace.cells;
     set_numbers(settings, &mut cells[..count])?;
-    let steps = steps_of(&trace, count);
-    print!(rt; "{}", steps_text(heap, "tis", steps)?)?;
+    print_steps(rt, heap, &trace, count)?;
     print_read(rt, constellation, &cells)?;
     Ok(())
 }
