@@ -70,7 +70,7 @@ fn axis_point(order: Order, bits: &[bool]) -> i16
 }
 
 // Quadrature amplitude modulation: the first half of a cell's bits gives the real amplitude, the second the imaginary one.
-#[derive(Clone, Copy, PartialEq, Eq, Debug)]
+#[derive(Clone, Copy, PartialEq, Eq, Debug, Default)]
 pub struct Qam;
 
 impl Constellation for Qam {

@@ -15,7 +15,7 @@ use cells::Qam;
 use codes::symbols::count_differing;
 use modem::{MisTrace, write_mis, write_tis};
 use modes::{DataConstellation, Mis, Occupancy, Tis, TisConstellation};
-use reed_solomon::streams::{mis as mis_code, tis as tis_code};
+use reed_solomon::streams::{MisReedSolomon, TisReedSolomon};
 
 #[cfg(test)]
 mod checks;
@@ -38,7 +38,7 @@ pub fn printed_mis() -> MisTrace
         tis: TisConstellation::Qam4,
         data: DataConstellation::Qam4,
     };
-    write_mis(&mis_code(), &Qam, mis)
+    write_mis(&MisReedSolomon::default(), &Qam, mis)
 }
 
 // In how many of 29 symbols the words of two TIS differ by RS(29,9), whatever the constellation: in at least 21, unless they state the same.
@@ -46,8 +46,18 @@ pub fn tis_differing(one: Tis, other: Tis) -> usize
     ensures count { result ≡ differing (λ x. x) (tis_word (tis_message one)) (tis_word (tis_message other)) }
     ensures apart { result < 21 → other ≡ one }
 {
-    let first = write_tis(&tis_code(), &Qam, TisConstellation::Qam4, one);
-    let second = write_tis(&tis_code(), &Qam, TisConstellation::Qam4, other);
+    let first = write_tis(
+        &TisReedSolomon::default(),
+        &Qam,
+        TisConstellation::Qam4,
+        one,
+    );
+    let second = write_tis(
+        &TisReedSolomon::default(),
+        &Qam,
+        TisConstellation::Qam4,
+        other,
+    );
     count_differing(&first.word, &second.word)
 }
 
@@ -66,8 +76,8 @@ pub fn mis_differing(one: Mis, other: Mis) -> MisDiffering
     ensures symbols { result.symbols ≡ differing (λ x. x) (mis_word (mis_message one)) (mis_word (mis_message other)) }
     ensures apart { result.symbols < 3 → other ≡ one }
 {
-    let first = write_mis(&mis_code(), &Qam, one);
-    let second = write_mis(&mis_code(), &Qam, other);
+    let first = write_mis(&MisReedSolomon::default(), &Qam, one);
+    let second = write_mis(&MisReedSolomon::default(), &Qam, other);
     MisDiffering {
         bits: count_differing(&first.scrambled, &second.scrambled),
         symbols: count_differing(&first.word, &second.word),

@@ -1,7 +1,7 @@
 // A notice from shore to ship: what an integrator writes to send it and to read it.
 use lineup::asked::Asked;
 use lineup::line_up::StaircaseLineUp;
-use radio::{navdat_channel, navdat_pair};
+use radio::{NavdatChannel, navdat_pair};
 use std::alloc::Global;
 use std::test::Fail;
 
@@ -30,7 +30,7 @@ fn harbour(heap: Global) -> Result<StaircaseLineUp, Fail> {
 #[test]
 fn a_notice_from_shore_to_ship(rt: HostRuntime) -> Result<(), Fail> {
     let line_up = harbour(rt.alloc())?;
-    let channel = navdat_channel();
+    let channel = NavdatChannel::default();
     let (mut exciter, mut receiver) = navdat_pair(rt.alloc(), &channel, line_up)?;
     // ashore: the station, and a notice that takes two frames
     let notice = b"Light buoy 7 is unlit, keep clear";

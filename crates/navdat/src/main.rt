@@ -14,14 +14,14 @@ mod steps;
 mod tis;
 
 use held::Held;
-use radio::navdat_channel;
+use radio::NavdatChannel;
 use script::run_line;
 use std::io;
 use std::io::{BufRead, BufReader};
 
 fn main(rt: HostRuntime) -> io::Result<()> {
     let input = BufReader::new(rt.alloc(), rt.stdin())?;
-    let channel = navdat_channel();
+    let channel = NavdatChannel::default();
     let mut held = Held::new(rt.alloc(), &channel)?;
     for line in input.split(rt.alloc(), b'\n') {
         run_line(&rt, &mut held, &line?)?;

@@ -8,7 +8,7 @@ use desk::text::steps_text;
 use desk::trouble::{Stop, Trouble};
 use frames::FrameFault;
 use modem::{MisTrace, read_mis, write_mis};
-use reed_solomon::streams::mis as mis_code;
+use reed_solomon::streams::MisReedSolomon;
 use std::alloc::Global;
 use std::io;
 
@@ -20,7 +20,7 @@ fn print_steps(rt: &impl Print, heap: Global, trace: &MisTrace) -> io::Result<()
 
 // Prints what reading the cells gives.
 fn print_read(rt: &impl Print, cells: &[Cell; 14]) -> io::Result<()> {
-    match read_mis(&mis_code(), &Qam, cells) {
+    match read_mis(&MisReedSolomon::default(), &Qam, cells) {
         Ok(mis) => println!(rt;
             "mis: reads {} mended {}",
             ModeNumbers(mis.stated),
@@ -35,7 +35,7 @@ pub(crate) fn run_mis(rt: &impl Print, heap: Global, words: &[&str]) -> Result<(
     let [o, t, d, settings @ ..] = words else {
         return Err(Trouble::TooFew.into());
     };
-    let trace = write_mis(&mis_code(), &Qam, mode(o, t, d)?);
+    let trace = write_mis(&MisReedSolomon::default(), &Qam, mode(o, t, d)?);
     let mut cells = trace.cells;
     set_numbers(settings, &mut cells)?;
     print_steps(rt, heap, &trace)?;

@@ -11,7 +11,7 @@ use desk::trouble::{Stop, Trouble};
 use frames::FrameFault;
 use modem::{TisTrace, read_tis, write_tis};
 use modes::{Tis, TisConstellation, data_coding};
-use reed_solomon::streams::tis as tis_code;
+use reed_solomon::streams::TisReedSolomon;
 use std::alloc::Global;
 use std::io;
 
@@ -36,7 +36,7 @@ fn print_read(
     constellation: TisConstellation,
     cells: &[Cell; 102],
 ) -> io::Result<()> {
-    match read_tis(&tis_code(), &Qam, constellation, cells) {
+    match read_tis(&TisReedSolomon::default(), &Qam, constellation, cells) {
         Ok(tis) => println!(rt;
             "tis: reads {} mended {}",
             TisNumbers(tis.stated),
@@ -52,7 +52,7 @@ pub(crate) fn run_tis(rt: &impl Print, heap: Global, words: &[&str]) -> Result<(
         return Err(Trouble::TooFew.into());
     };
     let (tis, constellation) = asked([o, d, r, s, h, m, u, q])?;
-    let trace = write_tis(&tis_code(), &Qam, constellation, tis);
+    let trace = write_tis(&TisReedSolomon::default(), &Qam, constellation, tis);
     let count = constellation.cell_count();
     let mut cells = trace.cells;
     set_numbers(settings, &mut cells[..count])?;

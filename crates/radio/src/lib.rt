@@ -10,6 +10,6 @@ mod together;
 
 pub use answer::Taken;
 pub use exciter::Exciter;
-pub use product::{NavdatChannel, NavdatExciter, NavdatReceiver, navdat_channel, navdat_pair};
+pub use product::{NavdatChannel, NavdatExciter, NavdatReceiver, navdat_pair};
 pub use receiver::Receiver;
 pub use together::pair;

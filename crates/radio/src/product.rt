@@ -5,7 +5,6 @@ ghost use Rattle.frames.specs.Apart.{FramesApart};
 ghost use Rattle.lineup.specs.Views.{block_length, view_of};
 ghost use Rattle.lineup.specs.declared.mode.Mode.{Mode};
 ghost use Rattle.messages.specs.Pieces.{piece_length_of};
-ghost use Rattle.reed_solomon.specs.Generators.{generator_of};
 ghost use Rattle.frames.specs.Frames.{sending_on};
 ghost use Rattle.frames.specs.Reading.{mending};
 ghost use Rattle.radio.specs.Lines.{line_on};
@@ -22,7 +21,7 @@ use cells::{Constellation, Qam};
 use codes::words::SendingCode;
 use frames::Channel;
 use lineup::line_up::StaircaseLineUp;
-use reed_solomon::streams::{MisReedSolomon, TisReedSolomon, mis, tis};
+use reed_solomon::streams::{MisReedSolomon, TisReedSolomon};
 use staircase::code::Staircase;
 use std::alloc::{AllocError, Global};
 
@@ -39,19 +38,6 @@ pub type NavdatReceiver<'a> = Receiver<
     Qam,
     Qam,
 >;
-
-pub fn navdat_channel() -> NavdatChannel
-    ensures mis { result.mis.generator ≡ generator_of 2 }
-    ensures tis { result.tis.generator ≡ generator_of 20 }
-{
-    Channel {
-        mis: mis(),
-        tis: tis(),
-        mis_points: Qam,
-        tis_points: Qam,
-        data_points: Qam,
-    }
-}
 
 // An exciter and a receiver of the product. Frames differ in at least 3 of the 4 symbols of the MIS, or state the same in it;
 // and in at least 21 of the 29 symbols of the TIS, or state the same in that. Of every run of the two, what `pair` promises.

@@ -1,7 +1,4 @@
 // The codes of the streams of the modulation and of the transmitter information.
-ghost use Rattle.std.specs.Prelude.{◌≡◌};
-ghost use Rattle.reed_solomon.specs.Generators.{generator_of};
-
 use crate::code::ReedSolomon;
 
 // RS(4,2): two symbols and two check symbols; one wrong symbol is mended.
@@ -10,22 +7,32 @@ pub type MisReedSolomon = ReedSolomon<2, 2, 4>;
 // RS(29,9): nine symbols and twenty check symbols; one wrong symbol is mended.
 pub type TisReedSolomon = ReedSolomon<20, 9, 29>;
 
-// (X + α)(X + α^2) = X^2 + 6·X + 8
-#[tactic(auto, unfolding(crate::specs::Field::alpha, crate::specs::Field::raised, crate::specs::Words::added, crate::specs::Generators::generator_of))]
-pub fn mis() -> MisReedSolomon
-    ensures { result.generator ≡ generator_of 2 }
-{
-    ReedSolomon { generator: [6, 8] }
+impl Default for MisReedSolomon {
+    ghost use Rattle.std.specs.Prelude.{◌≡◌};
+    ghost use Rattle.reed_solomon.specs.Generators.{generator_of};
+
+    ghost is_default = { λ code. code.generator ≡ generator_of 2 };
+
+    // (X + α)(X + α^2) = X^2 + 6·X + 8
+    #[tactic(auto, unfolding(crate::specs::Field::alpha, crate::specs::Field::raised, crate::specs::Words::added, crate::specs::Generators::generator_of))]
+    fn default() -> Self {
+        ReedSolomon { generator: [6, 8] }
+    }
 }
 
-// (X + α)(X + α^2)…(X + α^20)
-#[tactic(auto, unfolding(crate::specs::Field::alpha, crate::specs::Field::raised, crate::specs::Words::added, crate::specs::Generators::generator_of))]
-pub fn tis() -> TisReedSolomon
-    ensures { result.generator ≡ generator_of 20 }
-{
-    ReedSolomon {
-        generator: [
-            37, 118, 58, 76, 24, 59, 127, 39, 90, 39, 101, 98, 48, 29, 50, 38, 41, 16, 56, 66,
-        ],
+impl Default for TisReedSolomon {
+    ghost use Rattle.std.specs.Prelude.{◌≡◌};
+    ghost use Rattle.reed_solomon.specs.Generators.{generator_of};
+
+    ghost is_default = { λ code. code.generator ≡ generator_of 20 };
+
+    // (X + α)(X + α^2)…(X + α^20)
+    #[tactic(auto, unfolding(crate::specs::Field::alpha, crate::specs::Field::raised, crate::specs::Words::added, crate::specs::Generators::generator_of))]
+    fn default() -> Self {
+        ReedSolomon {
+            generator: [
+                37, 118, 58, 76, 24, 59, 127, 39, 90, 39, 101, 98, 48, 29, 50, 38, 41, 16, 56, 66,
+            ],
+        }
     }
 }
