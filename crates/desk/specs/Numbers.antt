@@ -1,11 +1,12 @@
 -- The numbers of a script: decimal, with `-` in front of a negative one.
-use Rattle.std.specs.Prelude.{◌≡◌, ℕ, ◌^◌, ◌&&◌, cond, Bool, List, length, drop, ℤ, pos, neg_ℤ, Result, Ok, Err, MatchResult, nat_lt, nat_le}
+use Rattle.std.specs.Prelude.{◌≡◌, ℕ, ◌^◌, ◌&&◌, cond, Bool, List, [], ◌∷◌, ◌++◌, length, drop, ℤ, pos, neg_ℤ, Result, Ok, Err, MatchResult, nat_lt, nat_le}
 use Rattle.std.specs.Str.{all_ascii_digits}
 use Rattle.std.specs.Str.Parse.{digits_value, starts_with_minus}
 use Rattle.std.specs.declared.num.ParseIntError.{ParseIntError}
 use Rattle.desk.specs.declared.trouble.Trouble.{Trouble}
 use Rattle.desk.specs.declared.trouble.Trouble.TheVariants.{NoNumber, OutOfRange}
 use Rattle.desk.specs.Troubles.{◌>>=◌}
+use Rattle.desk.specs.Words.{counted}
 
 -- r is what `parse` gives of a word, and where that is an error the word is no number
 abbrev pub Parses : {T : Type 0} → (List ℕ → Result T ParseIntError → Type 0) → List ℕ → Result T Trouble → Type 0
@@ -35,3 +36,20 @@ natural_of most word = do
 -- a count, a size or a place
 abbrev pub count_of : List ℕ → Result ℕ Trouble
 count_of word = natural_of 1000000 word
+
+-- the numbers of words that are to be so many, each written by a word
+module _ {A : Type 0} (value_of : List ℕ → Result A Trouble) where
+  -- those of words behind the numbers of the words before them
+  abbrev pub numbers_behind : List A → List (List ℕ) → Result (List A) Trouble
+  numbers_behind before [] = Ok before
+  numbers_behind before (word ∷ words) = do
+    number ← value_of word
+    numbers_behind (before ++ number ∷ []) words
+
+  abbrev pub all_of : ℕ → List (List ℕ) → Result (List A) Trouble
+  all_of n words = counted n words (numbers_behind [] words)
+
+-- the only word's count where there is a word, and else the usual one
+abbrev pub count_or : ℕ → List (List ℕ) → Result ℕ Trouble
+count_or usual [] = Ok usual
+count_or usual (word ∷ words) = counted 1 (word ∷ words) (count_of word)

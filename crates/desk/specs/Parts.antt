@@ -1,9 +1,10 @@
 -- Parts of a mode and a station, by the numbers that a script has for them.
-use Rattle.std.specs.Prelude.{◌≡◌, ℕ, cond, List, [], ◌∷◌, Result, Ok, Err, MatchResult}
+use Rattle.std.specs.Prelude.{◌≡◌, ℕ, cond, List, [], ◌∷◌, Result, Ok, Err, MatchResult, nat_lt}
 use Rattle.modes.specs.declared.mode.Mis.{Mis}
 use Rattle.modes.specs.declared.station.Station.{Station}
+use Rattle.modes.specs.declared.station.Tis.{Tis}
 use Rattle.modes.specs.declared.unknown.UnknownNumber.{UnknownNumber}
-use Rattle.modes.specs.Modes.{occupancy_of, tis_of, data_of}
+use Rattle.modes.specs.Modes.{occupancy_of, tis_of, data_of, rate_of, data_coding}
 use Rattle.modes.specs.Stations.{allowed?}
 use Rattle.desk.specs.declared.trouble.Trouble.{Trouble}
 use Rattle.desk.specs.declared.trouble.Trouble.TheVariants.{OutOfRange}
@@ -45,3 +46,16 @@ station_asked s h m d = do
   minute ← unsigned_of m
   duration ← unsigned_of d
   cond (allowed? station hour minute duration) (Ok (station ∷ hour ∷ minute ∷ duration ∷ [])) (Err OutOfRange)
+
+-- the numbers of a TIS: the data coding, and those of its station record
+abbrev pub tis_numbers : Tis → List ℕ
+tis_numbers t = t.coding ∷ station_numbers t.station
+
+-- the numbers of the TIS of seven words
+abbrev pub tis_asked : (o d r s h m u : List ℕ) → Result (List ℕ) Trouble
+tis_asked o d r s h m u = do
+  occupancy ← part_of occupancy_of o
+  constellation ← part_of data_of d
+  rate ← part_of rate_of r
+  station ← station_asked s h m u
+  cond (nat_lt (data_coding occupancy constellation rate) 32) (Ok (data_coding occupancy constellation rate ∷ station)) (Err OutOfRange)

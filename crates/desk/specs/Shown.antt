@@ -1,5 +1,5 @@
--- What is printed of a mode, of a station, of a TIS and of a refusal.
-use Rattle.std.specs.Prelude.{ℕ, List, [], ◌∷◌, ◌++◌, codes, decimal}
+-- What is printed of a mode, of a station, of a TIS, of a refusal and of a call that answers nothing.
+use Rattle.std.specs.Prelude.{ℕ, List, [], ◌∷◌, ◌++◌, codes, decimal, Result, Ok, Err}
 use Rattle.std.specs.List.{flat_map}
 use Rattle.modes.specs.declared.mode.Mis.{Mis}
 use Rattle.modes.specs.declared.station.Station.{Station}
@@ -42,3 +42,8 @@ label_of _ = []
 -- a refusal's number, and what it hands back
 abbrev pub refused_text : Refusal → List ℕ
 refused_text r = codes "refused " ++ (decimal (known r).number ++ (label_of r ++ spaced (known r).values))
+
+-- that a call was done, or why it was refused
+abbrev pub answered_text : Result (Unit {0}) Refusal → List ℕ
+answered_text (Ok _) = codes "done"
+answered_text (Err r) = refused_text r

@@ -3,24 +3,16 @@ ghost use Rattle.std.specs.Prelude.{◌≡◌, ◌++◌, ◌∷◌, [], length, 
 ghost use Rattle.desk.specs.Changes.{Does, Makes, MayDo};
 
 use crate::trouble::Trouble;
-use std::alloc::{AllocError, Global};
+use std::alloc::AllocError;
 
 // Frames, each of any size.
 #[derive(Drop)]
 pub struct Frames {
-    frames: Vec<Vec<i16>>,
+    pub frames: Vec<Vec<i16>>,
 }
 
 impl Frames {
     ghost use Rattle.desk.specs.Frames.{copied, frames_of, resized, set_in, shown};
-
-    pub fn new(heap: Global) -> Self
-        ensures { frames_of result ≡ [] }
-    {
-        Frames {
-            frames: Vec::new(heap),
-        }
-    }
 
     // Adds a frame, and answers its number.
     pub fn push(&mut self, frame: Vec<i16>) -> Result<usize, AllocError>

@@ -1,6 +1,7 @@
 // What a script's words say, and what is printed of bits, numbers and cells.
 #![tactic(auto)]
 
+pub mod blocks;
 pub mod frames;
 pub mod loads;
 pub mod numbers;

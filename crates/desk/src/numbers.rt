@@ -1,9 +1,11 @@
 // The numbers of a script: decimal, with `-` in front of a negative one.
 ghost use Rattle.std.specs.Prelude.{◌≡◌, ◌≢◌, ◌≤◌, IfOk, slice_index};
-ghost use Rattle.desk.specs.Numbers.{Parses, count_of, natural_of, signed_of, unsigned_of};
+ghost use Rattle.desk.specs.Numbers.{Parses, all_of, count_of, count_or, natural_of, signed_of, unsigned_of};
+ghost use Rattle.desk.specs.Words.{texts};
 ghost use Rattle.desk.specs.declared.trouble.Trouble.TheVariants.{NoNumber};
 
 use crate::trouble::Trouble;
+use crate::words::exactly;
 use std::num::ParseIntError;
 use std::str::FromStr;
 
@@ -52,4 +54,75 @@ pub fn count(word: &str) -> Result<usize, Trouble>
     ensures most { IfOk result (λ n. n ≤ 1000000) }
 {
     Ok(natural(word, MOST_COUNT)? as usize)
+}
+
+// A number that a word of its own writes.
+pub trait Written: Copy + Default {
+    ghost use Rattle.std.specs.Prelude.{◌≡◌, ℕ, List, Result};
+    ghost use Rattle.desk.specs.declared.trouble.Trouble.{Trouble};
+
+    ghost value_of: { List ℕ → Result Self Trouble };
+
+    fn read(word: &str) -> Result<Self, Trouble>
+        ensures { result ≡ value_of word.now };
+}
+
+impl Written for u8 {
+    ghost value_of = { natural_of 255 };
+
+    fn read(word: &str) -> Result<u8, Trouble> {
+        Ok(natural(word, 255)? as u8)
+    }
+}
+
+impl Written for i16 {
+    ghost value_of = { signed_of };
+
+    fn read(word: &str) -> Result<i16, Trouble> {
+        signed(word)
+    }
+}
+
+impl Written for u32 {
+    ghost value_of = { unsigned_of };
+
+    fn read(word: &str) -> Result<u32, Trouble> {
+        unsigned(word)
+    }
+}
+
+impl Written for usize {
+    ghost value_of = { count_of };
+
+    fn read(word: &str) -> Result<usize, Trouble> {
+        count(word)
+    }
+}
+
+// The numbers of words that are to be N.
+pub fn all<T: Written, const N: usize>(words: &[&str]) -> Result<[T; N], Trouble>
+    ensures { result ≡ all_of T.value_of N (texts words.now) }
+{
+    if words.len() < N {
+        return Err(Trouble::TooFew);
+    }
+    if words.len() > N {
+        return Err(Trouble::TooMany);
+    }
+    let mut numbers = [T::default(); N];
+    for (i, word) in words.iter().enumerate() {
+        numbers[i] = T::read(word)?;
+    }
+    Ok(numbers)
+}
+
+// The count of the only word, or the usual one where there is no word.
+pub fn count_or(usual: usize, words: &[&str]) -> Result<usize, Trouble>
+    ensures { result ≡ count_or usual (texts words.now) }
+{
+    if words.is_empty() {
+        return Ok(usual);
+    }
+    let [word] = exactly::<_, 1>(words)?;
+    count(word)
 }

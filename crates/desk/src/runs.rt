@@ -5,39 +5,12 @@ ghost use Rattle.desk.specs.Numbers.{natural_of, signed_of};
 ghost use Rattle.desk.specs.Runs.{drafted, run_of};
 ghost use Rattle.desk.specs.Words.{texts};
 
-use crate::numbers::{count, natural, signed};
+use crate::numbers::{Written, count};
 use crate::trouble::Trouble;
 use std::alloc::Global;
 
-// A value that a run repeats.
-trait RunValue: Copy {
-    ghost use Rattle.std.specs.Prelude.{◌≡◌, ℕ, List, Result};
-    ghost use Rattle.desk.specs.declared.trouble.Trouble.{Trouble};
-
-    ghost value_of: { List ℕ → Result Self Trouble };
-
-    fn read(word: &str) -> Result<Self, Trouble>
-        ensures { result ≡ value_of word.now };
-}
-
-impl RunValue for u8 {
-    ghost value_of = { natural_of 255 };
-
-    fn read(word: &str) -> Result<u8, Trouble> {
-        Ok(natural(word, 255)? as u8)
-    }
-}
-
-impl RunValue for i16 {
-    ghost value_of = { signed_of };
-
-    fn read(word: &str) -> Result<i16, Trouble> {
-        signed(word)
-    }
-}
-
 // The value of a run and how many times it comes.
-fn run_of<T: RunValue>(word: &str) -> Result<(T, usize), Trouble>
+fn run_of<T: Written>(word: &str) -> Result<(T, usize), Trouble>
     ensures value { result ≡ run_of T.value_of word.now }
     ensures most { IfOk result (λ run. run.1 ≤ 1000000) }
 {
@@ -51,7 +24,7 @@ fn run_of<T: RunValue>(word: &str) -> Result<(T, usize), Trouble>
 }
 
 // The values of a draft.
-fn values<T: RunValue>(heap: Global, words: &[&str]) -> Result<Vec<T>, Trouble>
+fn values<T: Written>(heap: Global, words: &[&str]) -> Result<Vec<T>, Trouble>
     ensures { MayMake (drafted T.value_of (texts words.now)) vec_items result }
 {
     if words.is_empty() {

@@ -1,4 +1,4 @@
-// What is printed of a mode, of a station, of a TIS and of a refusal.
+// What is printed of a mode, of a station, of a TIS, of a refusal and of a call that answers nothing.
 use modes::{Mis, Station, Tis};
 use refusals::Refusal;
 use std::fmt;
@@ -75,6 +75,24 @@ impl fmt::Display for Refused {
             Refusal::OtherMode(mis) => write!(f, "refused {number} names {}", ModeNumbers(mis)),
             Refusal::DataBeyondReach(word) => write!(f, "refused {number} word {word}"),
             _ => write!(f, "refused {number}"),
+        }
+    }
+}
+
+// That a call was done, or why it was refused.
+#[derive(Clone, Copy)]
+pub struct Answered(pub Result<(), Refusal>);
+
+impl fmt::Display for Answered {
+    ghost use Rattle.std.specs.Prelude.{Some};
+    ghost use Rattle.desk.specs.Shown.{answered_text};
+
+    ghost output = { λ a. Some (answered_text a.0) };
+
+    fn fmt<W: fmt::Write>(&self, f: &mut fmt::Formatter<W>) -> fmt::Result {
+        match self.0 {
+            Ok(()) => write!(f, "done"),
+            Err(refusal) => write!(f, "{}", Refused(refusal)),
         }
     }
 }

@@ -4,7 +4,7 @@ ghost use Rattle.std.specs.IoError.{error_kind};
 ghost use Rattle.std.specs.declared.io.ErrorKind.TheVariants.{OutOfMemory};
 ghost use Rattle.desk.specs.Troubles.{hex_trouble};
 ghost use Rattle.desk.specs.declared.trouble.Stop.TheVariants.{Output};
-ghost use Rattle.desk.specs.declared.trouble.Trouble.TheVariants.{NoMemory, NoNumber, NoText, OutOfRange};
+ghost use Rattle.desk.specs.declared.trouble.Trouble.TheVariants.{NoMemory, NoNumber, NoRoom, NoText, OutOfRange};
 
 use hex::FromHexError;
 use modes::UnknownNumber;
@@ -79,6 +79,14 @@ impl From<AllocError> for Trouble {
 
     fn from(_: AllocError) -> Trouble {
         Trouble::NoMemory
+    }
+}
+
+impl From<packets::NoRoom> for Trouble {
+    ghost from_gives = { λ _ why. why ≡ NoRoom };
+
+    fn from(_: packets::NoRoom) -> Trouble {
+        Trouble::NoRoom
     }
 }
 

@@ -1,10 +1,8 @@
 // `plan RUN…`, `exponents RUN…` and `fill O T D R L M K`: drafts, and the line-up that is filled from them.
-use crate::counts::four;
-use desk::numbers::unsigned;
+use desk::numbers::all;
 use desk::runs::{exponents, plan_bytes};
-use desk::shown::Refused;
-use desk::trouble::{Stop, Trouble};
-use desk::words::exactly;
+use desk::shown::Answered;
+use desk::trouble::Stop;
 use lineup::asked::Asked;
 use lineup::line_up::StaircaseLineUp;
 use std::alloc::Global;
@@ -31,23 +29,6 @@ pub(crate) fn run_exponents(
     Ok(())
 }
 
-// What the words and the drafts ask for.
-fn asked<'a>(words: &[&str], plan: &'a [u8], exponents: &'a [i16]) -> Result<Asked<'a>, Trouble> {
-    let [o, t, d, r, l, m, k] = exactly::<_, 7>(words)?;
-    let [occupancy, tis, data, rate] = four([o, t, d, r])?;
-    Ok(Asked {
-        occupancy,
-        tis,
-        data,
-        rate,
-        plan,
-        lift: unsigned(l)?,
-        rows: unsigned(m)?,
-        columns: unsigned(k)?,
-        exponents,
-    })
-}
-
 pub(crate) fn run_fill(
     rt: &impl Print,
     line_up: &mut StaircaseLineUp,
@@ -55,9 +36,18 @@ pub(crate) fn run_fill(
     exponents: &[i16],
     words: &[&str],
 ) -> Result<(), Stop> {
-    match line_up.fill(asked(words, plan, exponents)?) {
-        Ok(()) => println!(rt; "fill: done")?,
-        Err(refusal) => println!(rt; "fill: {}", Refused(refusal))?,
-    }
+    let [occupancy, tis, data, rate, lift, rows, columns] = all::<u32, 7>(words)?;
+    let answer = line_up.fill(Asked {
+        occupancy,
+        tis,
+        data,
+        rate,
+        plan,
+        lift,
+        rows,
+        columns,
+        exponents,
+    });
+    println!(rt; "fill: {}", Answered(answer))?;
     Ok(())
 }

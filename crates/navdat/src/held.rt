@@ -33,7 +33,9 @@ impl<'a> Held<'a> {
             exciter,
             numbers: 0,
             receiver,
-            frames: Frames::new(heap),
+            frames: Frames {
+                frames: Vec::new(heap),
+            },
         })
     }
 }

@@ -1,14 +1,14 @@
 // `copy F`, `set F I V`, `resize F N` and `show F`: the list of frames, numbered from 0.
-use crate::counts::only_count;
 use desk::frames::Frames;
-use desk::numbers::{count, signed};
+use desk::numbers::{all, count, signed};
 use desk::text::numbers_text;
 use desk::trouble::Stop;
 use desk::words::exactly;
 use std::alloc::Global;
 
 pub(crate) fn run_copy(rt: &impl Print, frames: &mut Frames, words: &[&str]) -> Result<(), Stop> {
-    let copy = frames.copy(only_count(words)?)?;
+    let [frame] = all::<usize, 1>(words)?;
+    let copy = frames.copy(frame)?;
     println!(rt; "copy: frame {copy}")?;
     Ok(())
 }
@@ -22,9 +22,8 @@ pub(crate) fn run_set(rt: &impl Print, frames: &mut Frames, words: &[&str]) -> R
 }
 
 pub(crate) fn run_resize(rt: &impl Print, frames: &mut Frames, words: &[&str]) -> Result<(), Stop> {
-    let [frame, size] = exactly::<_, 2>(words)?;
-    let frame = count(frame)?;
-    frames.resize(frame, count(size)?)?;
+    let [frame, size] = all::<usize, 2>(words)?;
+    frames.resize(frame, size)?;
     println!(rt; "resize: frame {frame}")?;
     Ok(())
 }
@@ -35,7 +34,8 @@ pub(crate) fn run_show(
     frames: &Frames,
     words: &[&str],
 ) -> Result<(), Stop> {
-    let numbers = frames.get(only_count(words)?)?;
+    let [frame] = all::<usize, 1>(words)?;
+    let numbers = frames.get(frame)?;
     println!(rt; "show:{}", numbers_text(heap, numbers)?)?;
     Ok(())
 }

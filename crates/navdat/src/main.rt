@@ -1,7 +1,6 @@
 // The desk program: a script of commands in, what the library's calls answer out.
 #![tactic(auto)]
 
-mod counts;
 mod drafts;
 mod exciting;
 mod held;

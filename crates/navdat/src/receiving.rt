@@ -1,7 +1,7 @@
 // `receiver`, `take F` and `fetch N`: the receiver's calls.
-use crate::counts::only_count;
 use crate::held::Held;
 use desk::frames::Frames;
+use desk::numbers::all;
 use desk::shown::{ModeNumbers, Refused, StationNumbers};
 use desk::trouble::Stop;
 use desk::words::exactly;
@@ -35,8 +35,8 @@ pub(crate) fn run_take(
     frames: &Frames,
     words: &[&str],
 ) -> Result<(), Stop> {
-    let numbers = frames.get(only_count(words)?)?;
-    match receiver.take(numbers) {
+    let [frame] = all::<usize, 1>(words)?;
+    match receiver.take(frames.get(frame)?) {
         Ok(taken) => print_taken(rt, taken)?,
         Err(refusal) => println!(rt; "take: {}", Refused(refusal))?,
     }
@@ -50,7 +50,8 @@ pub(crate) fn run_fetch(
     receiver: &NavdatReceiver,
     words: &[&str],
 ) -> Result<(), Stop> {
-    let mut bytes = vec![in heap; 255u8; only_count(words)?]?;
+    let [size] = all::<usize, 1>(words)?;
+    let mut bytes = vec![in heap; 255u8; size]?;
     match receiver.fetch(&mut bytes) {
         Ok(length) => println!(rt; "fetch: {length} bytes {}", hex::encode(heap, bytes)?)?,
         Err(refusal) => println!(rt; "fetch: {}", Refused(refusal))?,

@@ -3,25 +3,17 @@ ghost use Rattle.std.specs.Prelude.{◌≤◌};
 
 use crate::steps::steps_of;
 use cells::{Cell, Qam};
-use desk::parts::{part, station};
+use desk::parts::{part, tis};
 use desk::settings::set_numbers;
 use desk::shown::{Refused, TisNumbers};
 use desk::text::steps_text;
 use desk::trouble::{Stop, Trouble};
 use frames::FrameFault;
 use modem::{TisTrace, read_tis, write_tis};
-use modes::{Tis, TisConstellation, data_coding};
+use modes::TisConstellation;
 use reed_solomon::streams::TisReedSolomon;
 use std::alloc::Global;
 use std::io;
-
-// The TIS that the words ask for, and its constellation.
-fn asked([o, d, r, s, h, m, u, q]: [&str; 8]) -> Result<(Tis, TisConstellation), Trouble> {
-    let coding = data_coding(part(o)?, part(d)?, part(r)?);
-    let station = station(s, h, m, u)?;
-    let tis = Tis::new(coding, station).ok_or(Trouble::OutOfRange)?;
-    Ok((tis, part(q)?))
-}
 
 // Prints the steps, with so many of the cells.
 fn print_steps(rt: &impl Print, heap: Global, trace: &TisTrace, count: usize) -> io::Result<()>
@@ -51,8 +43,9 @@ pub(crate) fn run_tis(rt: &impl Print, heap: Global, words: &[&str]) -> Result<(
     let [o, d, r, s, h, m, u, q, settings @ ..] = words else {
         return Err(Trouble::TooFew.into());
     };
-    let (tis, constellation) = asked([o, d, r, s, h, m, u, q])?;
-    let trace = write_tis(&TisReedSolomon::default(), &Qam, constellation, tis);
+    let stated = tis(o, d, r, s, h, m, u)?;
+    let constellation: TisConstellation = part(q)?;
+    let trace = write_tis(&TisReedSolomon::default(), &Qam, constellation, stated);
     let count = constellation.cell_count();
     let mut cells = trace.cells;
     set_numbers(settings, &mut cells[..count])?;

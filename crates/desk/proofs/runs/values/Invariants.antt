@@ -5,5 +5,5 @@ use Rattle.desk.proofs.runs.values.Given as goal
 
 abbrev pub invariant-loop-word : goal.invariant-loop-word
 invariant-loop-word g l =
-    values_of g.T.RunValue.value_of (vec_items l.values) (texts (drop l.word-index l.words))
-    ≡ values_of g.T.RunValue.value_of [] (texts l.fn.words)
+    values_of g.T.Written.value_of (vec_items l.values) (texts (drop l.word-index l.words))
+    ≡ values_of g.T.Written.value_of [] (texts l.fn.words)
