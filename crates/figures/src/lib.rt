@@ -46,18 +46,9 @@ pub fn tis_differing(one: Tis, other: Tis) -> usize
     ensures count { result ≡ differing (λ x. x) (tis_word (tis_message one)) (tis_word (tis_message other)) }
     ensures apart { result < 21 → other ≡ one }
 {
-    let first = write_tis(
-        &TisReedSolomon::default(),
-        &Qam,
-        TisConstellation::Qam4,
-        one,
-    );
-    let second = write_tis(
-        &TisReedSolomon::default(),
-        &Qam,
-        TisConstellation::Qam4,
-        other,
-    );
+    let code = TisReedSolomon::default();
+    let first = write_tis(&code, &Qam, TisConstellation::Qam4, one);
+    let second = write_tis(&code, &Qam, TisConstellation::Qam4, other);
     count_differing(&first.word, &second.word)
 }
 
@@ -76,8 +67,9 @@ pub fn mis_differing(one: Mis, other: Mis) -> MisDiffering
     ensures symbols { result.symbols ≡ differing (λ x. x) (mis_word (mis_message one)) (mis_word (mis_message other)) }
     ensures apart { result.symbols < 3 → other ≡ one }
 {
-    let first = write_mis(&MisReedSolomon::default(), &Qam, one);
-    let second = write_mis(&MisReedSolomon::default(), &Qam, other);
+    let code = MisReedSolomon::default();
+    let first = write_mis(&code, &Qam, one);
+    let second = write_mis(&code, &Qam, other);
     MisDiffering {
         bits: count_differing(&first.scrambled, &second.scrambled),
         symbols: count_differing(&first.word, &second.word),
