@@ -6,7 +6,7 @@ use Rattle.std.proofs.lemmas.Bool.{le-ltb}
 use Rattle.desk.specs.declared.settings.Setting.{Setting}
 use Rattle.desk.specs.declared.trouble.Trouble.{Trouble}
 use Rattle.desk.specs.Changes.{Does, with_number}
-use Rattle.desk.specs.Numbers.{all_of, numbers_behind}
+use Rattle.desk.specs.Numbers.{all_numbers, numbers_behind}
 use Rattle.desk.specs.Settings.{set_all, setting_of, with_set}
 use Rattle.desk.specs.Troubles.{◌>>=◌}
 use Rattle.desk.specs.Words.{texts}
@@ -32,7 +32,7 @@ one_more_set words i word s before after r there e h in_order =
 pub all_answered : {A : Type 0} (value_of : List ℕ → Result A Trouble) (n i : ℕ) (words : List (Bor (List ℕ))) (numbers : List A)
     → n ≤ length words → length words ≤ n → length words ≤ i → length numbers ≡ n
     → numbers_behind value_of (take i numbers) (texts (drop i words)) ≡ numbers_behind value_of [] (texts words)
-    → all_of value_of n (texts words) ≡ Ok numbers
+    → all_numbers value_of n (texts words) ≡ Ok numbers
 all_answered value_of n i words numbers few many done long so_far =
     let count : length (texts words) ≡ n = length-map words (λ word. word.now) ∙ omega (arith, few, many) in
     rw (count, le-ltb n n (omega arith)) (sym so_far ∙ rw (take_all i numbers (omega (arith, done, many, few, long)), drop_all i words done) refl)

@@ -46,8 +46,8 @@ module _ {A : Type 0} (value_of : List ℕ → Result A Trouble) where
     number ← value_of word
     numbers_behind (before ++ number ∷ []) words
 
-  abbrev pub all_of : ℕ → List (List ℕ) → Result (List A) Trouble
-  all_of n words = counted n words (numbers_behind [] words)
+  abbrev pub all_numbers : ℕ → List (List ℕ) → Result (List A) Trouble
+  all_numbers n words = counted n words (numbers_behind [] words)
 
 -- the only word's count where there is a word, and else the usual one
 abbrev pub count_or : ℕ → List (List ℕ) → Result ℕ Trouble

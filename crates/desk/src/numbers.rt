@@ -1,6 +1,6 @@
 // The numbers of a script: decimal, with `-` in front of a negative one.
 ghost use Rattle.std.specs.Prelude.{◌≡◌, ◌≢◌, ◌≤◌, IfOk, slice_index};
-ghost use Rattle.desk.specs.Numbers.{Parses, all_of, count_of, count_or, natural_of, signed_of, unsigned_of};
+ghost use Rattle.desk.specs.Numbers.{Parses, all_numbers, count_of, count_or, natural_of, signed_of, unsigned_of};
 ghost use Rattle.desk.specs.Words.{texts};
 ghost use Rattle.desk.specs.declared.trouble.Trouble.TheVariants.{NoNumber};
 
@@ -100,8 +100,8 @@ impl Written for usize {
 }
 
 // The numbers of words that are to be N.
-pub fn all<T: Written, const N: usize>(words: &[&str]) -> Result<[T; N], Trouble>
-    ensures { result ≡ all_of T.value_of N (texts words.now) }
+pub fn all_numbers<T: Written, const N: usize>(words: &[&str]) -> Result<[T; N], Trouble>
+    ensures { result ≡ all_numbers T.value_of N (texts words.now) }
 {
     if words.len() < N {
         return Err(Trouble::TooFew);

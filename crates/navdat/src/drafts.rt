@@ -1,5 +1,5 @@
 // `plan RUN…`, `exponents RUN…` and `fill O T D R L M K`: drafts, and the line-up that is filled from them.
-use desk::numbers::all;
+use desk::numbers::all_numbers;
 use desk::runs::{exponents, plan_bytes};
 use desk::shown::Answered;
 use desk::trouble::Stop;
@@ -36,7 +36,7 @@ pub(crate) fn run_fill(
     exponents: &[i16],
     words: &[&str],
 ) -> Result<(), Stop> {
-    let [occupancy, tis, data, rate, lift, rows, columns] = all::<u32, 7>(words)?;
+    let [occupancy, tis, data, rate, lift, rows, columns] = all_numbers::<u32, 7>(words)?;
     let answer = line_up.fill(Asked {
         occupancy,
         tis,

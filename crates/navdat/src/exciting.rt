@@ -1,7 +1,7 @@
 // `exciter`, `station S H M D`, `load hex HEX`, `load ramp N`, `send`, `send N` and `clear`: the exciter's calls.
 use crate::held::Held;
 use desk::loads::loaded_bytes;
-use desk::numbers::{all, count_or};
+use desk::numbers::{all_numbers, count_or};
 use desk::shown::{Answered, Refused};
 use desk::trouble::Stop;
 use desk::words::exactly;
@@ -21,7 +21,7 @@ pub(crate) fn run_station(
     exciter: &mut NavdatExciter,
     words: &[&str],
 ) -> Result<(), Stop> {
-    let [station, hour, minute, duration] = all::<u32, 4>(words)?;
+    let [station, hour, minute, duration] = all_numbers::<u32, 4>(words)?;
     let answer = exciter.station(station, hour, minute, duration);
     println!(rt; "station: {}", Answered(answer))?;
     Ok(())

@@ -1,13 +1,13 @@
 // `copy F`, `set F I V`, `resize F N` and `show F`: the list of frames, numbered from 0.
 use desk::frames::Frames;
-use desk::numbers::{all, count, signed};
+use desk::numbers::{all_numbers, count, signed};
 use desk::text::numbers_text;
 use desk::trouble::Stop;
 use desk::words::exactly;
 use std::alloc::Global;
 
 pub(crate) fn run_copy(rt: &impl Print, frames: &mut Frames, words: &[&str]) -> Result<(), Stop> {
-    let [frame] = all::<usize, 1>(words)?;
+    let [frame] = all_numbers::<usize, 1>(words)?;
     let copy = frames.copy(frame)?;
     println!(rt; "copy: frame {copy}")?;
     Ok(())
@@ -22,7 +22,7 @@ pub(crate) fn run_set(rt: &impl Print, frames: &mut Frames, words: &[&str]) -> R
 }
 
 pub(crate) fn run_resize(rt: &impl Print, frames: &mut Frames, words: &[&str]) -> Result<(), Stop> {
-    let [frame, size] = all::<usize, 2>(words)?;
+    let [frame, size] = all_numbers::<usize, 2>(words)?;
     frames.resize(frame, size)?;
     println!(rt; "resize: frame {frame}")?;
     Ok(())
@@ -34,7 +34,7 @@ pub(crate) fn run_show(
     frames: &Frames,
     words: &[&str],
 ) -> Result<(), Stop> {
-    let [frame] = all::<usize, 1>(words)?;
+    let [frame] = all_numbers::<usize, 1>(words)?;
     let numbers = frames.get(frame)?;
     println!(rt; "show:{}", numbers_text(heap, numbers)?)?;
     Ok(())

@@ -1,7 +1,7 @@
 // `receiver`, `take F` and `fetch N`: the receiver's calls.
 use crate::held::Held;
 use desk::frames::Frames;
-use desk::numbers::all;
+use desk::numbers::all_numbers;
 use desk::shown::{ModeNumbers, Refused, StationNumbers};
 use desk::trouble::Stop;
 use desk::words::exactly;
@@ -35,7 +35,7 @@ pub(crate) fn run_take(
     frames: &Frames,
     words: &[&str],
 ) -> Result<(), Stop> {
-    let [frame] = all::<usize, 1>(words)?;
+    let [frame] = all_numbers::<usize, 1>(words)?;
     match receiver.take(frames.get(frame)?) {
         Ok(taken) => print_taken(rt, taken)?,
         Err(refusal) => println!(rt; "take: {}", Refused(refusal))?,
@@ -50,7 +50,7 @@ pub(crate) fn run_fetch(
     receiver: &NavdatReceiver,
     words: &[&str],
 ) -> Result<(), Stop> {
-    let [size] = all::<usize, 1>(words)?;
+    let [size] = all_numbers::<usize, 1>(words)?;
     let mut bytes = vec![in heap; 255u8; size]?;
     match receiver.fetch(&mut bytes) {
         Ok(length) => println!(rt; "fetch: {length} bytes {}", hex::encode(heap, bytes)?)?,

@@ -1,6 +1,6 @@
 use Rattle.std.proofs.Common.{sym}
 use Rattle.desk.proofs.WordByWord.{all_answered}
-use Rattle.desk.proofs.numbers.all.Goals as goal
+use Rattle.desk.proofs.numbers.all_numbers.Goals as goal
 
 pub returns : goal.returns
 returns g c =

@@ -1,7 +1,7 @@
 use Rattle.std.proofs.Common.{◌≡◌, [], drop, length, take}
 use Rattle.desk.specs.Numbers.{numbers_behind}
 use Rattle.desk.specs.Words.{texts}
-use Rattle.desk.proofs.numbers.all.Given as goal
+use Rattle.desk.proofs.numbers.all_numbers.Given as goal
 
 abbrev pub invariant-loop-i : goal.invariant-loop-i
 invariant-loop-i g l =
