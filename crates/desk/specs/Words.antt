@@ -13,5 +13,5 @@ abbrev pub word_at : List (List ℕ) → ℕ → List ℕ
 word_at words i = slice_index_or words i []
 
 -- what is made of words that are to be n
-abbrev pub counted : {A : Type 0} → ℕ → List (List ℕ) → Result A Trouble → Result A Trouble
+abbrev pub counted : {A B : Type 0} → ℕ → List B → Result A Trouble → Result A Trouble
 counted n words made = cond (nat_lt (length words) n) (Err TooFew) (cond (nat_lt n (length words)) (Err TooMany) made)

@@ -1,15 +1,13 @@
 // The words of a command.
-ghost use Rattle.std.specs.Prelude.{◌≡◌, ◌<◌, ◌↔◌, length, IfOk, IsOk};
-ghost use Rattle.desk.specs.declared.trouble.Trouble.TheVariants.{TooFew, TooMany};
+ghost use Rattle.std.specs.Prelude.{Ok};
+ghost use Rattle.desk.specs.Changes.{Makes};
+ghost use Rattle.desk.specs.Words.{counted};
 
 use crate::trouble::Trouble;
 
 // Words that are to be N.
 pub fn exactly<T, const N: usize>(words: &[T]) -> Result<&[T; N], Trouble>
-    ensures found { IsOk result ↔ (length words.now ≡ N) }
-    ensures all { IfOk result (λ all. all.now ≡ words.now) }
-    ensures few { length words.now < N → result ≡ Err TooFew }
-    ensures many { N < length words.now → result ≡ Err TooMany }
+    ensures { Makes (counted N words.now (Ok words.now)) (λ all. all.now) result }
 {
     match words.split_first_chunk::<N>() {
         Some((all, [])) => Ok(all),
