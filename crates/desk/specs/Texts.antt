@@ -22,9 +22,13 @@ bits_shown bits = encode_utf8_all (map bit_digit bits)
 abbrev pub symbols_shown : List ℕ → List ℕ
 symbols_shown symbols = flat_map (λ n. 32 ∷ decimal n) symbols
 
--- the numbers of cells, two a cell, a space before each
+-- numbers of cells, a space before each
+abbrev pub values_shown : List ℤ → List ℕ
+values_shown values = flat_map (λ n. 32 ∷ signed_decimal n) values
+
+-- the numbers of cells, two a cell
 abbrev pub cells_shown : List Cell → List ℕ
-cells_shown cells = flat_map (λ n. 32 ∷ signed_decimal n) (flat_map numbers_of cells)
+cells_shown cells = values_shown (flat_map numbers_of cells)
 
 -- the line of a step, behind the stream's name
 abbrev pub step_line : List ℕ → List ℕ → List ℕ → List ℕ

@@ -1,17 +1,25 @@
 // Parts of a mode and a station, by the numbers that a script has for them.
 ghost use Rattle.std.specs.Prelude.{◌≡◌};
 ghost use Rattle.desk.specs.Changes.{Makes};
-ghost use Rattle.desk.specs.Parts.{Names, mode_of, station_asked, station_numbers, tis_asked, tis_numbers};
+ghost use Rattle.modes.specs.Modes.{tis_of};
+ghost use Rattle.desk.specs.Parts.{Names, mode_of, part_of, station_asked, station_numbers, tis_asked, tis_numbers};
 
 use crate::numbers::unsigned;
 use crate::trouble::Trouble;
-use modes::{Mis, Station, Tis, UnknownNumber, data_coding};
+use modes::{Mis, Station, Tis, TisConstellation, UnknownNumber, data_coding};
 
 // The part of a mode that a word names by its number.
-pub fn part<T: TryFrom<u32, Error = UnknownNumber>>(word: &str) -> Result<T, Trouble>
+fn part<T: TryFrom<u32, Error = UnknownNumber>>(word: &str) -> Result<T, Trouble>
     ensures { Names T.try_from_gives word.now result }
 {
     Ok(T::try_from(unsigned(word)?)?)
+}
+
+// The constellation of a TIS, by its number.
+pub fn tis_constellation(word: &str) -> Result<TisConstellation, Trouble>
+    ensures { result ≡ part_of tis_of word.now }
+{
+    part(word)
 }
 
 // The mode that a MIS states, by its three numbers.

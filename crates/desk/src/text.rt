@@ -2,7 +2,7 @@
 ghost use Rattle.std.specs.Prelude.{◌≡◌, [], ◌∷◌, ◌++◌, All, IfOk, IsSome, OnOk, encode_utf8_all, map, unwrap_or};
 ghost use Rattle.std.specs.List.{flat_map};
 ghost use Rattle.std.specs.String.{string_bytes};
-ghost use Rattle.desk.specs.Texts.{bit_digit, bits_shown, cells_shown, numbers_of, step_line, steps_lines, symbols_shown};
+ghost use Rattle.desk.specs.Texts.{bit_digit, bits_shown, cells_shown, numbers_of, step_line, steps_lines, symbols_shown, values_shown};
 
 use cells::Cell;
 use std::alloc::{AllocError, Global};
@@ -18,7 +18,7 @@ fn bits_text(heap: Global, bits: &[bool]) -> Result<String, AllocError>
 }
 
 // Numbers, a space before each.
-pub fn numbers_text<T: Display>(heap: Global, numbers: &[T]) -> Result<String, AllocError>
+fn numbers_text<T: Display>(heap: Global, numbers: &[T]) -> Result<String, AllocError>
     ensures { IfOk result (λ text. All (λ n. IsSome (T.output n)) numbers.now →
         string_bytes text ≡ flat_map (λ n. 32 ∷ unwrap_or (T.output n) []) numbers.now) }
 {
@@ -27,6 +27,13 @@ pub fn numbers_text<T: Display>(heap: Global, numbers: &[T]) -> Result<String, A
         write!(text, " {n}")?;
     }
     Ok(text)
+}
+
+// Numbers of cells, a space before each.
+pub fn values_text(heap: Global, values: &[i16]) -> Result<String, AllocError>
+    ensures { IfOk result (λ text. string_bytes text ≡ values_shown values.now) }
+{
+    numbers_text(heap, values)
 }
 
 // The two numbers of a cell.

@@ -1,7 +1,7 @@
 // `copy F`, `set F I V`, `resize F N` and `show F`: the list of frames, numbered from 0.
 use desk::frames::Frames;
 use desk::numbers::{all_numbers, count, signed};
-use desk::text::numbers_text;
+use desk::text::values_text;
 use desk::trouble::Stop;
 use desk::words::exactly;
 use std::alloc::Global;
@@ -36,6 +36,6 @@ pub(crate) fn run_show(
 ) -> Result<(), Stop> {
     let [frame] = all_numbers::<usize, 1>(words)?;
     let numbers = frames.get(frame)?;
-    println!(rt; "show:{}", numbers_text(heap, numbers)?)?;
+    println!(rt; "show:{}", values_text(heap, numbers)?)?;
     Ok(())
 }

@@ -3,7 +3,7 @@ ghost use Rattle.std.specs.Prelude.{◌≤◌};
 
 use crate::steps::steps_of;
 use cells::{Cell, Qam};
-use desk::parts::{part, tis};
+use desk::parts::{tis, tis_constellation};
 use desk::settings::set_numbers;
 use desk::shown::{Refused, TisNumbers};
 use desk::text::steps_text;
@@ -44,7 +44,7 @@ pub(crate) fn run_tis(rt: &impl Print, heap: Global, words: &[&str]) -> Result<(
         return Err(Trouble::TooFew.into());
     };
     let stated = tis(o, d, r, s, h, m, u)?;
-    let constellation: TisConstellation = part(q)?;
+    let constellation = tis_constellation(q)?;
     let trace = write_tis(&TisReedSolomon::default(), &Qam, constellation, stated);
     let count = constellation.cell_count();
     let mut cells = trace.cells;
