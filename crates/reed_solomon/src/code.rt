@@ -72,7 +72,7 @@ impl<const ROOTS: usize, const MESSAGE: usize, const WORD: usize> ReedSolomon<
         requires below { Symbols symbols.now }
         ensures { Decides result (symbols.now ≡ word_of (generator_of ROOTS) (take MESSAGE symbols.now)) }
     {
-        let (message, checks) = symbols.split_at(MESSAGE);
+        let (message, checks) = symbols.split_at(symbols.len() - self.roots());
         let rest = self.remainder(Polynomial::new(message));
         rest.as_slice() == checks
     }
@@ -105,7 +105,7 @@ impl<const ROOTS: usize, const MESSAGE: usize, const WORD: usize> SendingCode
     }
 
     fn word_length(&self) -> usize {
-        WORD
+        self.roots() + MESSAGE
     }
 
     fn encode(&self, message: &[u8], out: &mut [u8]) {
