@@ -9,7 +9,7 @@ use Rattle.reed_solomon.proofs.Steps.{word_from_rest, rest_from_word}
 use Rattle.reed_solomon.proofs.code.ReedSolomon.is_word.Goals as goal
 
 pub new-requires : goal.new-requires
-new-requires g c = rw c.split_at.ensures.front (symbols_take (length c.args.symbols.now - c.roots.result) c.args.symbols.now c.requires.below)
+new-requires g c = rw c.split_at.ensures.front (symbols_take _ c.args.symbols.now c.requires.below)
 
 pub returns : goal.returns
 returns g c =
