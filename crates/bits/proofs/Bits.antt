@@ -7,7 +7,7 @@ use lib.Pow.{mod-pow-add, high}
 use Rattle.std.proofs.Math.Nat.{mul-le-mul_left, mul-le-mul_right}
 use Rattle.std.specs.List.{fold}
 use Rattle.std.proofs.lemmas.Nat.{or_shifted}
-use Rattle.std.proofs.lemmas.List.{append_assoc, append-nil, take_more, drop_at, drop-drop, drop_more, set_at, length-append, length-drop, length-take, length-take-le, take_at}
+use Rattle.std.proofs.lemmas.List.{append_assoc, append-nil, take_more, drop_at, drop-drop, drop_more, set_at, length-append, length-drop, length_push, length-take, length-take-le, take_at}
 use Rattle.std.proofs.lemmas.Bool.{cases_eq, ne_eqb, eq-eqb}
 use Rattle.codes.specs.Symbols.{bit_number, Below128}
 use Rattle.bits.specs.Bits.{AllBelow, bits_of, number_of, field_at, cut, spread}
@@ -81,6 +81,14 @@ field_back w n part size e = rw (size, e) at (bits_of-number_of part)
 -- a field's number, written again
 pub field_bits : (place w : ℕ) (bits : List Bool) → place + w ≤ length bits → bits_of w (field_at place w bits) ≡ take w (drop place bits)
 field_bits place w bits h = field_back w (field_at place w bits) (take w (drop place bits)) (part_length bits place w h) refl
+
+-- one bit more at the end
+pub number_of_push : (bs : List Bool) (b : Bool) → number_of (bs ++ b ∷ []) ≡ number_of bs * 2 + bit_number b
+unfolding number_of
+number_of_push [] b = omega arith
+number_of_push (x ∷ xs) b =
+    rw (length_push xs b, add-one, pow-suc, number_of_push xs b)
+    (omega (arith, mul_assoc (bit_number x) (2 ^ length xs) 2, add-mul (bit_number x * 2 ^ length xs) (number_of xs) 2))
 
 -- a bit as the code widens it
 bool_byte_number : (b : Bool) → bool_byte b ≡ bit_number b

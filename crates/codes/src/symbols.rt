@@ -41,8 +41,8 @@ fn count_apart<S: Symbol>(a: &[S], b: &[S]) -> usize
 {
     a.iter()
         .zip(b)
-        .filter(|(x, y)| x.to_number() != y.to_number())
-        .count()
+        .map(|(x, y)| usize::from(x.to_number() != y.to_number()))
+        .sum()
 }
 
 // In how many places two runs of symbols differ; a place that only one of them has counts too.

@@ -1,5 +1,6 @@
 mod Arrays
 mod Cells
+mod HexWords
 mod Lists
 mod Naming
 mod Parsing

@@ -35,7 +35,7 @@ tis_text t = codes "coding " ++ (decimal t.coding ++ (codes " station " ++ stati
 abbrev pub label_of : Refusal → List ℕ
 label_of (PlanByte _) = codes " place"
 label_of (ExponentOutOfRange _) = codes " place"
-label_of (OtherMode _) = codes " names"
+label_of (OtherMode _ _ _) = codes " names"
 label_of (DataBeyondReach _) = codes " word"
 label_of _ = []
 

@@ -4,6 +4,7 @@ ghost use Rattle.desk.specs.Blocks.{asked_parts, block_asked, flag_of, header_as
 ghost use Rattle.desk.specs.Changes.{MayMake};
 ghost use Rattle.desk.specs.Words.{texts};
 
+use crate::digits::bytes_of;
 use crate::numbers::natural;
 use crate::trouble::Trouble;
 use crate::words::exactly;
@@ -44,7 +45,7 @@ pub fn packet_asked(heap: Global, words: &[&str]) -> Result<PacketAsked, Trouble
     Ok(PacketAsked {
         header: header(toggle, last, id)?,
         size: natural(size, MOST_BLOCK as u32)? as usize,
-        data: hex::decode(heap, data)?,
+        data: bytes_of(heap, data)?,
     })
 }
 
@@ -53,7 +54,7 @@ pub fn block_asked(heap: Global, words: &[&str]) -> Result<Vec<u8>, Trouble>
     ensures { MayMake (block_asked (texts words.now)) vec_items result }
 {
     let [block] = exactly::<_, 1>(words)?;
-    let block = hex::decode(heap, block)?;
+    let block = bytes_of(heap, block)?;
     if !(LEAST_BLOCK..=MOST_BLOCK).contains(&block.len()) {
         return Err(Trouble::OutOfRange);
     }

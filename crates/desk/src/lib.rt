@@ -2,6 +2,7 @@
 #![tactic(auto)]
 
 pub mod blocks;
+mod digits;
 pub mod frames;
 pub mod loads;
 pub mod numbers;

@@ -4,6 +4,7 @@ ghost use Rattle.desk.specs.Changes.{MayMake};
 ghost use Rattle.desk.specs.Loads.{hex_bytes, loaded_of, ramp_bytes, ramp_of};
 ghost use Rattle.desk.specs.Words.{texts};
 
+use crate::digits::bytes_of;
 use crate::numbers::count;
 use crate::trouble::Trouble;
 use crate::words::exactly;
@@ -30,7 +31,7 @@ fn hex_bytes(heap: Global, words: &[&str]) -> Result<Vec<u8>, Trouble>
 {
     match words {
         [] => Ok(Vec::new(heap)),
-        [digits] => Ok(hex::decode(heap, digits)?),
+        [digits] => bytes_of(heap, digits),
         _ => Err(Trouble::TooMany),
     }
 }

@@ -72,7 +72,7 @@ impl fmt::Display for Refused {
             Refusal::PlanByte(place) | Refusal::ExponentOutOfRange(place) => {
                 write!(f, "refused {number} place {place}")
             }
-            Refusal::OtherMode(mis) => write!(f, "refused {number} names {}", ModeNumbers(mis)),
+            Refusal::OtherMode(o, t, d) => write!(f, "refused {number} names {o} {t} {d}"),
             Refusal::DataBeyondReach(word) => write!(f, "refused {number} word {word}"),
             _ => write!(f, "refused {number}"),
         }

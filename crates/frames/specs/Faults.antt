@@ -1,4 +1,5 @@
 -- The refusals that the faults of a frame are.
+use Rattle.modes.specs.Modes.{occupancy_number, tis_number, data_number}
 use Rattle.refusals.specs.declared.Refusal.{Refusal}
 use Rattle.refusals.specs.declared.Refusal.TheVariants.{MisBeyondReach, BadMis, OtherMode as OtherModeRefusal, TisBeyondReach, BadTis, OtherDataCoding as OtherDataCodingRefusal, DataBeyondReach, BadPacket}
 use Rattle.modem.specs.declared.fault.StreamFault.{StreamFault}
@@ -17,7 +18,7 @@ tis_refusal (Record f) = BadTis
 -- the refusal that a fault of the frame is, by the stream that it names
 abbrev pub refusal_of : FrameFault → Refusal
 refusal_of (Mis f) = mis_refusal f
-refusal_of (OtherMode mis) = OtherModeRefusal mis
+refusal_of (OtherMode mis) = OtherModeRefusal (occupancy_number mis.occupancy) (tis_number mis.tis) (data_number mis.«data»)
 refusal_of (Tis f) = tis_refusal f
 refusal_of OtherDataCoding = OtherDataCodingRefusal
 refusal_of (Data lost) = DataBeyondReach lost.word

@@ -49,7 +49,11 @@ impl From<FrameFault> for Refusal {
         match fault {
             FrameFault::Mis(StreamFault::Reach(_)) => Refusal::MisBeyondReach,
             FrameFault::Mis(StreamFault::Record(_)) => Refusal::BadMis,
-            FrameFault::OtherMode(mis) => Refusal::OtherMode(mis),
+            FrameFault::OtherMode(mis) => Refusal::OtherMode(
+                mis.occupancy.into(),
+                mis.tis.into(),
+                mis.data.into(),
+            ),
             FrameFault::Tis(StreamFault::Reach(_)) => Refusal::TisBeyondReach,
             FrameFault::Tis(StreamFault::Record(_)) => Refusal::BadTis,
             FrameFault::OtherDataCoding => Refusal::OtherDataCoding,

@@ -31,15 +31,15 @@ pub(crate) fn count(plan: &[u8], kind: CellKind) -> usize
     ensures { result ≡ cells_of_kind (kind_number kind) plan.now }
 {
     let number = u8::from(kind);
-    plan.iter().filter(|byte| **byte == number).count()
+    plan.iter().map(|byte| usize::from(*byte == number)).sum()
 }
 
 // The place of a byte that stands for no kind, if there is one.
 pub(crate) fn bad_byte(plan: &[u8]) -> Option<usize>
     ensures { MatchOption result (BytesKnown plan.now) (λ place. BadByte plan.now place) }
 {
-    plan.iter()
-        .position(|byte| CellKind::try_from(*byte).is_err())
+    let last = u8::from(CellKind::Data);
+    plan.iter().position(|byte| *byte > last)
 }
 
 // Whether the MIS and the TIS have cells enough.
@@ -58,10 +58,8 @@ pub(crate) fn write_plan(bytes: &[u8], plan: &mut Vec<CellKind>)
     ensures kinds { plan_bytes plan.new.items ≡ bytes.now }
     ensures room { vec_capacity plan.old ≤ vec_capacity plan.new }
 {
-    plan.clear();
-    for byte in bytes {
-        if let Ok(kind) = CellKind::try_from(*byte) {
-            plan.push_reserved(kind);
-        }
+    let _there_is_room = plan.resize(bytes.len(), CellKind::Empty);
+    for (i, kind) in plan.iter_mut().enumerate() {
+        *kind = CellKind::try_from(bytes[i]).unwrap_or(CellKind::Empty);
     }
 }

@@ -61,7 +61,7 @@ impl Pieces {
             return false;
         };
         let count = usize::from(ending.id) + 1;
-        self.there.iter().take(count).all(|piece| *piece)
+        self.there[..count].iter().all(|piece| *piece)
     }
 
     // Whether the packet does not fit beside these pieces.

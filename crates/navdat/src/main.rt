@@ -19,11 +19,17 @@ use std::io;
 use std::io::{BufRead, BufReader};
 
 fn main(rt: HostRuntime) -> io::Result<()> {
-    let input = BufReader::new(rt.alloc(), rt.stdin())?;
+    let mut input = BufReader::new(rt.alloc(), rt.stdin())?;
     let channel = NavdatChannel::default();
     let mut held = Held::new(rt.alloc(), &channel)?;
-    for line in input.split(rt.alloc(), b'\n') {
-        run_line(&rt, &mut held, &line?)?;
+    // one store for every line, so that lines take no more memory than the longest
+    let mut line = Vec::new(rt.alloc());
+    for _ in 0..u64::MAX {
+        line.clear();
+        if input.read_until(b'\n', &mut line)? == 0 {
+            break;
+        }
+        run_line(&rt, &mut held, &line)?;
     }
     Ok(())
 }

@@ -53,6 +53,7 @@ fn run_text(rt: &impl Print, held: &mut Held, line: &[u8]) -> Result<(), Stop> {
     if text.starts_with('#') {
         return Ok(());
     }
+    let text = text.strip_suffix('\n').unwrap_or(text);
     let all = words(held.heap, text.strip_suffix('\r').unwrap_or(text))?;
     run_words(rt, held, &all)
 }

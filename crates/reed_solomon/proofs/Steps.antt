@@ -1,13 +1,10 @@
 -- One more symbol into the remainder, place by place, and a word by its remainder. Assumes nothing.
-use Rattle.std.proofs.Common.{◌≡◌, ℕ, zero, suc, ◌+◌, ◌<◌, ◌≤◌, List, [], ◌∷◌, ◌++◌, map, length, get_or, take, drop, replicate, sym, refl, ap, subst, ◌∙◌, add-one, arith}
+use Rattle.std.proofs.Common.{◌≡◌, ℕ, zero, suc, ◌+◌, ◌-◌, ◌<◌, ◌≤◌, List, [], ◌∷◌, ◌++◌, map, length, get_or, take, drop, set, replicate, sym, refl, ap, ◌∙◌, add-one, arith}
 use lib.Bits.{bit_xor}
-use Rattle.std.proofs.lemmas.List.{get_or-drop, get_or-map, length-drop, length-append, length-map, length-take-le, take-append-drop, drop_at, at_drop_more, at_drop_all}
-use Rattle.std.specs.Array.{IsFromFnResult, IsFromFnResultFrom}
-use Rattle.std.specs.Fn.{Called, Mut}
-use Rattle.std.proofs.lemmas.Grind.{same_number_lists}
+use Rattle.std.proofs.lemmas.List.{get_or-drop, get_or-append_right, get_or-map, length-drop, length-append, length-map, length-take-le, take-append-drop, take_all, take_more, drop_at, drop_more, drop_all, set_at, append_assoc, append-nil, at_drop_more, at_drop_all}
 use Rattle.reed_solomon.specs.Field.{times}
 use Rattle.reed_solomon.specs.Words.{Symbols, added, divide_step, divided, word_of}
-use Rattle.reed_solomon.specs.ValuesLemmas.{length-added, symbols_append, symbols_drop, symbols_zeros, symbols_added, symbols_times}
+use Rattle.reed_solomon.specs.ValuesLemmas.{length-added, symbols_append, symbols_take, symbols_drop, symbols_zeros, symbols_added, symbols_times}
 
 get_or-added : (xs ys : List ℕ) (i : ℕ) → i < length xs → i < length ys → get_or (added xs ys) i 0 ≡ bit_xor (get_or xs i 0) (get_or ys i 0)
 unfolding added
@@ -48,17 +45,32 @@ module _ (g rest : List ℕ) (f : ℕ) (some : 0 < length g) (sized : length res
       ∙ ap (λ x. bit_xor x (get_or (map (times f) g) i 0)) (get_or-moved rest i ∙ ap (λ n. get_or rest n 0) (sym (add-one i)))
       ∙ ap (bit_xor (get_or rest (i + 1) 0)) (get_or-map (times f) g i 0 0 h)
 
-  pub step_from_entries : (next : List ℕ) → length next ≡ length g
-      → ((i : ℕ) → i < length g → get_or next i 0 ≡ bit_xor (get_or (drop 1 rest) i 0) (times f (get_or g i 0))) → next ≡ step_by g rest f
-  step_from_entries next n each =
-      same_number_lists next (step_by g rest f) (n ∙ sym length_step)
-      (λ i h. each i (omega arith) ∙ ap (λ x. bit_xor x (times f (get_or g i 0))) (get_or-drop 1 rest i 0 ∙ ap (λ k. get_or rest k 0) (omega arith)) ∙ sym (get_or_step i (omega arith)))
-
   pub symbols_step : Symbols g → Symbols rest → Symbols (step_by g rest f)
   unfolding step_by
   symbols_step k l =
       symbols_added (drop 1 rest ++ 0 ∷ []) (map (times f) g)
       (symbols_append (drop 1 rest) (0 ∷ []) (symbols_drop 1 rest l) (symbols_zeros 1)) (symbols_times f g k)
+
+-- the places below i are written, the others are as they were
+module _ (new old : List ℕ) (i : ℕ) (within : i < length new) (sized : length new ≡ length old) where
+  pub written_more : set (take i new ++ drop i old) i (get_or new i 0) ≡ take (i + 1) new ++ drop (i + 1) old
+  written_more =
+      let h : i < length old = omega arith in
+      ap (λ (ys : List ℕ). set (take i new ++ ys) i (get_or new i 0)) (drop_more old i 0 h)
+      ∙ set_at (take i new) (get_or old i 0) (drop (i + 1) old) (get_or new i 0) i (length-take-le i new (omega arith))
+      ∙ sym (append_assoc (take i new) (get_or new i 0 ∷ []) (drop (i + 1) old))
+      ∙ ap (λ (ys : List ℕ). ys ++ drop (i + 1) old) (sym (take_more new i 0 within))
+
+  pub written_next : get_or (take i new ++ drop i old) (i + 1) 0 ≡ get_or old (i + 1) 0
+  written_next =
+      get_or-append_right (take i new) (drop i old) i (i + 1) 0 (length-take-le i new (omega arith)) (omega arith)
+      ∙ get_or-drop i old (i + 1 - i) 0 ∙ ap (λ n. get_or old n 0) (omega arith)
+
+  pub written_symbols : Symbols new → Symbols old → Symbols (take i new ++ drop i old)
+  written_symbols h k = symbols_append (take i new) (drop i old) (symbols_take i new h) (symbols_drop i old k)
+
+pub written_all : (new old : List ℕ) (i : ℕ) → length new ≤ i → length old ≤ i → take i new ++ drop i old ≡ new
+written_all new old i h k = ap (λ (ys : List ℕ). take i new ++ ys) (drop_all i old k) ∙ append-nil (take i new) ∙ take_all i new h
 
 pub divided_more : (g rest cs : List ℕ) (i : ℕ) → i < length cs → divided g rest (drop i cs) ≡ divided g (divide_step g rest (get_or cs i 0)) (drop (i + 1) cs)
 unfolding divided
@@ -83,19 +95,3 @@ module _ (g w : List ℕ) (r k : ℕ) (size : length g ≡ r) where
   pub rest_from_word : k ≤ length w → w ≡ word_of g (take k w) → drop k w ≡ rest_of (take k w)
   rest_from_word h e =
       ap (drop k) (e ∙ word_is_rest) ∙ drop_at (take k w) (rest_of (take k w)) k (length-take-le k w h)
-
--- What `from_fn` makes of a closure that answers at each place what u tells, and changes nothing that it captures.
-module _ {F B : Type 0} (g : Mut F (ℕ × Unit {0}) B) (f : F) (u : B → ℕ) (at : ℕ → ℕ) (each : (i : ℕ) (y : B) (f' : F) → Called g f (i, tt) y f' → (u y ≡ at i) × (f' ≡ f)) where
-  entries_from : (ys : List B) (i n : ℕ) → IsFromFnResultFrom g f ys i n → (k : ℕ) (d : B) → k < n → u (get_or ys (i + k) d) ≡ at (i + k)
-  entries_from ys i zero r k d h = absurd (omega arith)
-  entries_from ys i (suc n) r zero d h =
-      let here = each i r.1 r.0 r.3 in
-      let z : i + 0 ≡ i = omega arith in
-      rw z (ap u (r.2.1 d) ∙ here.0)
-  entries_from ys i (suc n) r (suc k) d h =
-      let here = each i r.1 r.0 r.3 in
-      let e : i + suc k ≡ i + 1 + k = omega arith in
-      rw e (entries_from ys (i + 1) n (subst (λ (q : F). IsFromFnResultFrom g q ys (i + 1) n) here.1 r.4) k d (omega arith))
-
-  pub entries_made : (ys : List B) (n : ℕ) → IsFromFnResult g f ys n → (k : ℕ) (d : B) → k < n → u (get_or ys k d) ≡ at k
-  entries_made ys n r k d h = let z : 0 + k ≡ k = omega arith in rw z at (entries_from ys 0 n r.each k d h)

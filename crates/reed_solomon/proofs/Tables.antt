@@ -34,10 +34,12 @@ times_powers a b i j h e f =
 pub none_times : (a b : ℕ) → a ≡ 0 → times a b ≡ 0
 none_times a b e = ap (λ n. times n b) e ∙ zero-times b
 
-pub power_at : (xs : List ℕ) (k : ℕ) → xs ≡ map (λ n. raised n 1) (range_with_len 0 127) → get_or xs (k % 127) 0 ≡ raised k 1
-power_at xs k e =
-    let h : k % 127 < 127 = omega arith in
-    ap (λ (ys : List ℕ). get_or ys (k % 127) 0) e ∙ get_or-map-range_with_len (λ n. raised n 1) 0 127 (k % 127) (k % 127) 0 h (omega arith) ∙ raised-mod k 1 (omega arith)
+pub power_around : (k : ℕ) → raised (k % 127) 1 ≡ raised k 1
+power_around k = raised-mod k 1 (omega arith)
+
+pub power_there : (xs : List ℕ) (k : ℕ) → xs ≡ map (λ n. raised n 1) (range_with_len 0 254) → k < 254 → get_or xs k 0 ≡ raised k 1
+power_there xs k e h =
+    ap (λ (ys : List ℕ). get_or ys k 0) e ∙ get_or-map-range_with_len (λ n. raised n 1) 0 254 k k 0 h (omega arith)
 
 module _ (xs : List ℕ) (a : ℕ) (e : map (λ x. raised x 1) (drop 1 xs) ≡ range_with_len 1 127) (within : a < 128) where
   sized : length (drop 1 xs) ≡ 127

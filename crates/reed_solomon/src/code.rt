@@ -6,12 +6,11 @@ ghost use Rattle.reed_solomon.specs.Words.{Symbols, divide_step, divided, word_o
 ghost use Rattle.std.proofs.Common.{arith, rules, sym, ◌∙◌};
 ghost use Rattle.reed_solomon.specs.Codes.{code_sized, code_below, code_distant};
 
-use crate::field::{product, sum};
+use crate::field::{Factor, sum};
 use crate::polynomials::Polynomial;
 use codes::lengths::FixedCode;
 use codes::seven::SevenBit;
 use codes::words::SendingCode;
-use std::array;
 
 // The words of MESSAGE symbols and ROOTS check symbols whose roots are α … α^ROOTS.
 // The generator (X + α)…(X + α^ROOTS) stands without its leading 1.
@@ -37,21 +36,19 @@ impl<const ROOTS: usize, const MESSAGE: usize, const WORD: usize> ReedSolomon<
         ROOTS
     }
 
-    // The remainder of a division by the generator, once one more symbol of what is divided goes into it.
-    fn step(&self, rest: [u8; ROOTS], symbol: SevenBit) -> [u8; ROOTS]
-        requires { Symbols rest }
-        ensures { result ≡ divide_step (generator_of ROOTS) rest.entry symbol.number }
+    // One more symbol of what is divided goes into the remainder of a division by the generator.
+    fn step(&self, rest: &mut [u8; ROOTS], symbol: SevenBit)
+        requires { Symbols rest.old }
+        ensures { rest.new ≡ divide_step (generator_of ROOTS) rest.old symbol.number }
     {
-        let factor = sum(symbol, SevenBit::of(rest[0]));
-        let moved = Polynomial::new(&rest.as_slice()[1..]);
-        let generator = Polynomial::new(&self.generator);
-        array::from_fn(|i| {
-            sum(
-                moved.coefficient(i),
-                product(factor, generator.coefficient(i)),
-            )
-            .number()
-        })
+        let factor = Factor::new(sum(symbol, SevenBit::of(rest[0])));
+        let last = ROOTS - 1;
+        for i in 0..last {
+            let taken = factor.times(SevenBit::of(self.generator[i]));
+            rest[i] = sum(SevenBit::of(rest[i + 1]), taken).number();
+        }
+        // nothing stands behind the last place
+        rest[last] = factor.times(SevenBit::of(self.generator[last])).number();
     }
 
     // The remainder of the message's division by the generator.
@@ -61,7 +58,7 @@ impl<const ROOTS: usize, const MESSAGE: usize, const WORD: usize> ReedSolomon<
     {
         let mut rest = [0; ROOTS];
         for symbol in message.as_slice() {
-            rest = self.step(rest, SevenBit::of(*symbol));
+            self.step(&mut rest, SevenBit::of(*symbol));
         }
         rest
     }
@@ -72,7 +69,7 @@ impl<const ROOTS: usize, const MESSAGE: usize, const WORD: usize> ReedSolomon<
         requires below { Symbols symbols.now }
         ensures { Decides result (symbols.now ≡ word_of (generator_of ROOTS) (take MESSAGE symbols.now)) }
     {
-        let (message, checks) = symbols.split_at(MESSAGE);
+        let (message, checks) = symbols.split_at(symbols.len() - self.roots());
         let rest = self.remainder(Polynomial::new(message));
         rest.as_slice() == checks
     }
@@ -105,7 +102,7 @@ impl<const ROOTS: usize, const MESSAGE: usize, const WORD: usize> SendingCode
     }
 
     fn word_length(&self) -> usize {
-        WORD
+        self.roots() + MESSAGE
     }
 
     fn encode(&self, message: &[u8], out: &mut [u8]) {

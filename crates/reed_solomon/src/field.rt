@@ -1,18 +1,25 @@
 // The field GF(128) by tables of powers and logarithms.
-ghost use Rattle.std.specs.Prelude.{◌≡◌, ◌%◌, ◌<◌, map, drop, bit_xor};
+ghost use Rattle.std.specs.Prelude.{◌≡◌, ◌%◌, ◌<◌, ◌==◌, cond, map, drop, bit_xor};
 ghost use Rattle.std.specs.List.{range_with_len};
 ghost use Rattle.reed_solomon.specs.Field.{raised, times};
 
 use codes::seven::SevenBit;
 
-// The powers of α: α^k stands at k.
-static POWERS: [u8; 127] = [
+// The powers of α: α^k stands at k. They come round after 127, and stand here twice,
+// so that the sum of two logarithms is a place too.
+static POWERS: [u8; 254] = [
     1, 2, 4, 8, 16, 32, 64, 9, 18, 36, 72, 25, 50, 100, 65, 11, 22, 44, 88, 57, 114, 109, 83, 47,
     94, 53, 106, 93, 51, 102, 69, 3, 6, 12, 24, 48, 96, 73, 27, 54, 108, 81, 43, 86, 37, 74, 29,
     58, 116, 97, 75, 31, 62, 124, 113, 107, 95, 55, 110, 85, 35, 70, 5, 10, 20, 40, 80, 41, 82, 45,
     90, 61, 122, 125, 115, 111, 87, 39, 78, 21, 42, 84, 33, 66, 13, 26, 52, 104, 89, 59, 118, 101,
     67, 15, 30, 60, 120, 121, 123, 127, 119, 103, 71, 7, 14, 28, 56, 112, 105, 91, 63, 126, 117,
-    99, 79, 23, 46, 92, 49, 98, 77, 19, 38, 76, 17, 34, 68,
+    99, 79, 23, 46, 92, 49, 98, 77, 19, 38, 76, 17, 34, 68, 1, 2, 4, 8, 16, 32, 64, 9, 18, 36, 72,
+    25, 50, 100, 65, 11, 22, 44, 88, 57, 114, 109, 83, 47, 94, 53, 106, 93, 51, 102, 69, 3, 6, 12,
+    24, 48, 96, 73, 27, 54, 108, 81, 43, 86, 37, 74, 29, 58, 116, 97, 75, 31, 62, 124, 113, 107,
+    95, 55, 110, 85, 35, 70, 5, 10, 20, 40, 80, 41, 82, 45, 90, 61, 122, 125, 115, 111, 87, 39, 78,
+    21, 42, 84, 33, 66, 13, 26, 52, 104, 89, 59, 118, 101, 67, 15, 30, 60, 120, 121, 123, 127, 119,
+    103, 71, 7, 14, 28, 56, 112, 105, 91, 63, 126, 117, 99, 79, 23, 46, 92, 49, 98, 77, 19, 38, 76,
+    17, 34, 68,
 ];
 
 // The logarithms: α to the entry at a is a, but for a = 0, which is no power of α.
@@ -26,8 +33,8 @@ static LOGARITHMS: [u8; 128] = [
 ];
 
 #[tactic(auto, unfolding(crate::specs::Field::alpha, crate::specs::Field::raised))]
-fn powers() -> &'static [u8; 127]
-    ensures { result.now ≡ map (λ k. raised k 1) (range_with_len 0 127) }
+fn powers() -> &'static [u8; 254]
+    ensures { result.now ≡ map (λ k. raised k 1) (range_with_len 0 254) }
 {
     &POWERS
 }
@@ -40,12 +47,21 @@ fn logarithms() -> &'static [u8; 128]
     &LOGARITHMS
 }
 
+// α^k, where the table has it.
+#[tactic(auto, using(crate::specs::Powers::raised_lt, crate::proofs::Tables::power_there))]
+fn listed_power(k: usize) -> SevenBit
+    requires { k < 254 }
+    ensures { result.number ≡ raised k 1 }
+{
+    SevenBit::of(powers()[k])
+}
+
 // α^k
-#[tactic(auto, using(crate::specs::Powers::raised_lt, crate::proofs::Tables::power_at))]
+#[tactic(auto, using(crate::proofs::Tables::power_around))]
 pub(crate) fn power(k: usize) -> SevenBit
     ensures { result.number ≡ raised k 1 }
 {
-    SevenBit::of(powers()[k % 127])
+    listed_power(k % 127)
 }
 
 // The k below 127 with a = α^k.
@@ -77,13 +93,43 @@ pub(crate) fn sum(a: SevenBit, b: SevenBit) -> SevenBit
     SevenBit::of(a.number() ^ b.number())
 }
 
+// A symbol that others are multiplied by; its logarithm is taken once.
+#[derive(Clone, Copy)]
+pub(crate) struct Factor {
+    symbol: SevenBit,
+    // of a symbol that is not 0
+    logarithm: usize,
+    ghost below: { logarithm < 127 },
+    ghost power: { symbol.number ≡ cond (symbol.number == 0) 0 (raised logarithm 1) },
+}
+
+impl Factor {
+    pub(crate) fn new(symbol: SevenBit) -> Self
+        ensures { result.symbol ≡ symbol }
+    {
+        let logarithm = if symbol.number() == 0 {
+            0
+        } else {
+            logarithm(symbol)
+        };
+        Factor { symbol, logarithm }
+    }
+
+    // The product with another symbol.
+    #[tactic(auto, using(crate::proofs::Tables::times_powers, crate::proofs::Tables::none_times, crate::specs::Powers::times_zero))]
+    pub(crate) fn times(self, other: SevenBit) -> SevenBit
+        ensures { result.number ≡ times self.symbol.number other.number }
+    {
+        if self.symbol.number() == 0 || other.number() == 0 {
+            return SevenBit::of(0);
+        }
+        listed_power(self.logarithm + logarithm(other))
+    }
+}
+
 // The product of two symbols.
-#[tactic(auto, using(crate::proofs::Tables::times_powers, crate::proofs::Tables::none_times, crate::specs::Powers::times_zero))]
 pub fn product(a: SevenBit, b: SevenBit) -> SevenBit
     ensures { result.number ≡ times a.number b.number }
 {
-    if a.number() == 0 || b.number() == 0 {
-        return SevenBit::of(0);
-    }
-    power(logarithm(a) + logarithm(b))
+    Factor::new(a).times(b)
 }

@@ -1,5 +1,5 @@
 // Polynomials over GF(128), by their coefficients: the highest power stands first.
-ghost use Rattle.std.specs.Prelude.{◌≡◌, slice_index, length};
+ghost use Rattle.std.specs.Prelude.{◌≡◌, length};
 ghost use Rattle.reed_solomon.specs.Words.{Symbols, value_at};
 ghost use Rattle.reed_solomon.specs.ValuesLemmas.{symbols_prop};
 
@@ -32,14 +32,6 @@ impl<'a> Polynomial<'a> {
         ensures { result ≡ length self.entry.coefficients.now }
     {
         self.coefficients.len()
-    }
-
-    // The coefficient at a place from the front, and 0 past the end.
-    #[tactic(auto, using(crate::specs::ValuesLemmas::symbols_at))]
-    pub(crate) fn coefficient(self, i: usize) -> SevenBit
-        ensures { result.number ≡ slice_index self.entry.coefficients.now i }
-    {
-        SevenBit::of(self.coefficients.get(i).copied().unwrap_or(0))
     }
 
     // The value at α^j.

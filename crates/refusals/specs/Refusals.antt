@@ -1,6 +1,5 @@
 -- The refusals: each case's number, and the values that it hands back.
 use Rattle.std.specs.Prelude.{List, [], ◌∷◌, ℕ}
-use Rattle.modes.specs.Modes.{occupancy_number, tis_number, data_number}
 use Rattle.refusals.specs.declared.Refusal.{Refusal}
 use Rattle.refusals.specs.declared.Refusal.TheVariants.{ModeOutOfRange, PlanLength, PlanByte, FewStreamCells, CodeShape, ExponentOutOfRange, BlockLength, FewDataCells, StationOutOfRange, EmptyLineUp, MessageLoaded, MessageLength, TooManyPieces, NothingLoaded, NoStation, SliceLength, MisBeyondReach, BadMis, OtherMode, TisBeyondReach, BadTis, OtherDataCoding, DataBeyondReach, BadPacket, Misplaced, NothingComplete, FewBytes}
 
@@ -47,8 +46,7 @@ known MisBeyondReach = record { number = 17; values = [] }
 -- the MIS has a wrong CRC, fill 1 or data constellation 3
 known BadMis = record { number = 18; values = [] }
 -- the MIS names another occupancy or constellation: these three
-known (OtherMode mis) =
-    record { number = 19; values = occupancy_number mis.occupancy ∷ tis_number mis.tis ∷ data_number mis.«data» ∷ [] }
+known (OtherMode occupancy tis constellation) = record { number = 19; values = occupancy ∷ tis ∷ constellation ∷ [] }
 -- the TIS is beyond reach
 known TisBeyondReach = record { number = 20; values = [] }
 -- the TIS has a wrong CRC, a reserved 1 or a field out of range

@@ -4,8 +4,6 @@
 ghost use Rattle.std.specs.Prelude.{◌≡◌};
 ghost use Rattle.refusals.specs.Refusals.{refusal_number};
 
-use modes::Mis;
-
 // The cases stand in the order of their numbers, from 1.
 #[derive(Clone, Copy, PartialEq, Eq, Debug)]
 pub enum Refusal {
@@ -29,8 +27,8 @@ pub enum Refusal {
     SliceLength,
     MisBeyondReach,
     BadMis,
-    // what the MIS states
-    OtherMode(Mis),
+    // occupancy, TIS and data constellation that the MIS names
+    OtherMode(u8, u8, u8),
     TisBeyondReach,
     BadTis,
     OtherDataCoding,
@@ -66,7 +64,7 @@ impl From<Refusal> for u8 {
             Refusal::SliceLength => 16,
             Refusal::MisBeyondReach => 17,
             Refusal::BadMis => 18,
-            Refusal::OtherMode(_) => 19,
+            Refusal::OtherMode(_, _, _) => 19,
             Refusal::TisBeyondReach => 20,
             Refusal::BadTis => 21,
             Refusal::OtherDataCoding => 22,

@@ -1,3 +1,4 @@
+pub mod Compare
 pub mod Example
 pub mod Mends
 pub mod Rows

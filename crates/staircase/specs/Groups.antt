@@ -1,9 +1,9 @@
 -- Check groups, one after the other. Assumes nothing.
 use Rattle.std.specs.Prelude.{◌≡◌, ℕ, zero, suc, ◌+◌, ◌-◌, ◌*◌, ◌/◌, ◌%◌, ◌<◌, ◌≤◌, Bool, false, List, [], ◌∷◌, ◌++◌, length, get_or, take, drop, replicate, ℤ, slice_index_or, refl}
-use Rattle.std.proofs.Common.{sym, ap, subst, ◌∙◌, ⊎_elim, add-mul, zero-mul, mul-zero, add-one, arith}
+use Rattle.std.proofs.Common.{sym, ap, subst, ◌∙◌, ⊎_elim, add-mul, zero-mul, mul-zero, add-one, take-add, arith}
 use borrow.Rule.Slice.PartMut.{put_mid}
 use Rattle.std.specs.List.{range_with_len, flat_map}
-use Rattle.std.proofs.lemmas.List.{append_assoc, length-append, get_or_append_left, get_or-append_right, flat_map_more, map-id, drop_at, take_at, drop-drop, ext_get_or, take-replicate, length-replicate, get_or-replicate}
+use Rattle.std.proofs.lemmas.List.{append_assoc, length-append, get_or_append_left, get_or-append_right, flat_map_more, map-id, drop_at, take_at, drop-drop, ext_get_or, take-replicate, length-replicate, get_or-replicate, length-drop, length-take-le, get_or-take, get_or-drop}
 use Rattle.std.proofs.lemmas.Nat.{mul-le, div_below, mod_below, div-add-mod'}
 use Rattle.std.proofs.lemmas.List.FromFn.{map-range_with_len_more}
 use Rattle.std.proofs.lemmas.Bool.{cases_lt}
@@ -67,6 +67,29 @@ module _ (lift : ℕ) (f : ℕ → List Bool) where
         let r = mod_below k lift some in
         let split = div-add-mod' k lift in
         rw (← split) (at (k / lift) (k % lift) i r ∙ sym (get_or_groups n (k / lift) (k % lift) i r)))
+
+    -- a group cut out
+    pub groups_part : (n i : ℕ) → i < n → take lift (drop (i * lift) (flat_map f (range_with_len 0 n))) ≡ f i
+    groups_part n i h =
+        let all = flat_map f (range_with_len 0 n) in
+        let most = mul-le (i + 1) lift n lift (omega arith) (omega arith) in
+        let one = add-mul i 1 lift in
+        let size = length_groups n in
+        let rest = length-drop (i * lift) all in
+        let part = length-take-le lift (drop (i * lift) all) (omega arith) in
+        ext_get_or false (take lift (drop (i * lift) all)) (f i) (part ∙ sym (each i))
+        (λ r l.
+        let k : r < lift = omega arith in
+        get_or-take lift (drop (i * lift) all) r false k ∙ get_or-drop (i * lift) all r false ∙ get_or_groups n i r h k)
+
+    -- one more group found
+    pub groups_found : (xs group : List Bool) (i k : ℕ) → k ≡ lift → take (i * lift) xs ≡ flat_map f (range_with_len 0 i) → group ≡ f i → group ≡ take k (drop (i * lift) xs)
+        → take ((i + 1) * lift) xs ≡ flat_map f (range_with_len 0 (i + 1))
+    groups_found xs group i k size e g same =
+        let one : (i + 1) * lift ≡ i * lift + lift = omega (arith, add-mul i 1 lift) in
+        let cut = take-add (i * lift) lift xs in
+        let found : take lift (drop (i * lift) xs) ≡ f i = sym (rw size at same) ∙ g in
+        rw (one, cut, e, found) (sym (groups_more i))
 
     -- one more group written
     pub groups_put : (old checks group : List Bool) (i k : ℕ) → k ≡ lift → checks ≡ flat_map f (range_with_len 0 i) ++ drop (i * lift) old → group ≡ f i

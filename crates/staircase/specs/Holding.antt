@@ -6,7 +6,7 @@ use Rattle.std.proofs.lemmas.Nat.{mul-le}
 use Rattle.std.proofs.lemmas.Bool.{eqb-true, or_cases}
 use Rattle.std.proofs.lemmas.List.{length-append, length-drop, length-take-le, take-append-drop, take_at, drop_at}
 use Rattle.staircase.specs.Staircase.{check_at, check_groups, check_of, sum_at, word_of, ChecksHold, Lifted, Shaped, IsWord, ◌⊕◌}
-use Rattle.staircase.specs.Groups.{group, length-group, length_groups, get_or_groups, groups_is}
+use Rattle.staircase.specs.Groups.{group, length-group, length_groups, get_or_groups, groups_is, groups_part}
 use Rattle.staircase.specs.Places.{get_or-places}
 
 -- a word has at most 5120 bits
@@ -85,3 +85,9 @@ module _ (lift rows columns : ℕ) (es : List ℤ) where
         let front = take (columns * lift) bits in
         c ∙ ap (drop (columns * lift)) w ∙ drop_at front (check_groups lift columns es front rows) (columns * lift) message_size_lem
         ∙ ap (λ (s : List Bool). check_groups lift columns es s rows) (sym m)
+
+    -- each check group of a word is behind the ones before it
+    pub group_from_word : (message checks : List Bool) → message ≡ take (columns * lift) bits → checks ≡ drop (columns * lift) bits
+        → IsWord lift rows columns es bits → (i k : ℕ) → i < rows → k ≡ lift → group lift columns es message i ≡ take k (drop (i * lift) checks)
+    group_from_word message checks m c w i k h size =
+        rw (checks_from_word message checks m c w, size) (sym (groups_part lift (group lift columns es message) (length-group lift columns es message) rows i h))

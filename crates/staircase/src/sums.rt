@@ -20,6 +20,10 @@ fn add_moved(group: &[bool], shift: usize, sums: &mut [bool])
     requires some { 0 < length sums.old }
     ensures { sums.new ≡ places (length sums.old) (λ r. slice_index_or sums.old r false ⊕ slice_index_or group.now ((r + shift) % length sums.old) false) }
 {
+    // nothing is moved
+    if shift == 0 {
+        return add(group, sums);
+    }
     let lift = group.len();
     let (front, back) = group.split_at(shift % lift);
     let (low, high) = sums.split_at_mut(back.len());

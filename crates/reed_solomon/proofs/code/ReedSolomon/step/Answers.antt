@@ -1,36 +1,61 @@
-use Rattle.std.proofs.Common.{rules, ◌≡◌, ◌-◌, ℕ, List, length, get_or, drop, sym, ap, ap₂, ◌∙◌, arith}
-use lib.Bits.{bit_xor}
-use Rattle.std.proofs.lemmas.List.{take_all, length-drop}
-use Rattle.reed_solomon.specs.Generators.{generator_of}
-use Rattle.reed_solomon.specs.Field.{times}
-use Rattle.reed_solomon.specs.ValuesLemmas.{symbols_at, symbols_drop, symbols_take}
+use Rattle.std.proofs.Common.{◌≡◌, ◌+◌, ◌-◌, arith}
+use Rattle.std.specs.Int.Bits.{xor_zero_l}
+use Rattle.std.proofs.lemmas.List.{get_or_past}
+use Rattle.reed_solomon.specs.Words.{Symbols}
+use Rattle.reed_solomon.specs.ValuesLemmas.{symbols_at}
 use Rattle.reed_solomon.specs.GeneratorsLemmas.{generator_is}
-use Rattle.reed_solomon.proofs.Steps.{entries_made, step_from_entries, step_is, step_by}
+use Rattle.reed_solomon.proofs.Steps.{step_by, step_is, length_step, get_or_step, symbols_step, written_more, written_next, written_symbols, written_all}
 use Rattle.reed_solomon.proofs.code.ReedSolomon.step.Goals as goal
 
 pub of-requires : goal.of-requires
-of-requires g c = symbols_at c.args.rest 0 c.requires
+of-requires g c = symbols_at c.args.rest.now 0 c.requires
 
-pub new-moved-requires : goal.new-moved-requires
-new-moved-requires g c =
-    let front = c.as_slice.result.now in
-    symbols_take (length front - 1) (drop 1 front) (symbols_drop 1 front (rw c.as_slice.ensures c.requires))
+pub of-requires-in-loop-i : goal.of-requires-in-loop-i
+of-requires-in-loop-i g c =
+    symbols_at c.args.self.now.generator c.loop-i.i (rw c.args.self.now.by_roots (generator_is g.row.ROOTS).symbols)
 
-pub new-generator-requires : goal.new-generator-requires
-new-generator-requires g c = rw c.args.self.now.by_roots (generator_is g.row.ROOTS).symbols
+pub of-requires-in-loop-i-2 : goal.of-requires-in-loop-i-2
+of-requires-in-loop-i-2 g c =
+    let t = c.args.self.now.generator in
+    let old = c.args.rest.now in
+    let f = c.new-factor.result.symbol.number in
+    let s : Symbols t = rw c.args.self.now.by_roots (generator_is g.row.ROOTS).symbols in
+    let n = length_step t old f (omega arith) (omega arith) in
+    let both = written_symbols (step_by t old f) old c.loop-i.i (omega arith) (omega arith)
+    (symbols_step t old f (omega arith) (omega arith) s c.requires) c.requires in
+    symbols_at c.loop-i.rest (c.loop-i.i + 1) (rw c.loop-i.invariant both)
 
+pub loop-i-preserved : goal.loop-i-preserved
+loop-i-preserved g c =
+    let t = c.args.self.now.generator in
+    let old = c.args.rest.now in
+    let f = c.new-factor.result.symbol.number in
+    let i = c.loop-i.i in
+    let n = length_step t old f (omega arith) (omega arith) in
+    let more = written_more (step_by t old f) old i (omega arith) (omega arith) in
+    let next = written_next (step_by t old f) old i (omega arith) (omega arith) in
+    let here = get_or_step t old f (omega arith) (omega arith) i (omega arith) in
+    cc
+
+pub of-requires-2 : goal.of-requires-2
+of-requires-2 g c =
+    symbols_at c.args.self.now.generator (g.row.ROOTS - 1) (rw c.args.self.now.by_roots (generator_is g.row.ROOTS).symbols)
+
+-- the last place: nothing stands behind it
 pub returns : goal.returns
 returns g c =
-    let f = c.sum-factor.result.number in
-    let rest = c.args.rest in
-    let m = c.new-moved.result.coefficients.now in
-    let t = c.new-generator.result.coefficients.now in
-    let each = entries_made _ _ (λ x. x) (λ i. bit_xor (get_or m i 0) (times f (get_or t i 0))) (λ i y f' k. search rules) _ _ c.from_fn.ensures.items in
-    let moved : m ≡ drop 1 rest = c.new-moved.ensures ∙ take_all (length c.as_slice.result.now - 1) (drop 1 c.as_slice.result.now) (omega (arith, length-drop {A = ℕ})) ∙ ap (drop 1) c.as_slice.ensures in
-    let gen = generator_is g.row.ROOTS in
-    let size : length rest ≡ g.row.ROOTS = omega arith in
-    let table : t ≡ generator_of g.row.ROOTS = c.new-generator.ensures ∙ c.args.self.now.by_roots in
-    step_from_entries (generator_of g.row.ROOTS) rest f (omega (arith, gen.size)) (omega (arith, gen.size)) c.from_fn.result (c.from_fn.ensures.items.long ∙ sym gen.size)
-    (λ i h. each i 0 (omega (arith, gen.size)) ∙ ap₂ (λ (a b : List ℕ). bit_xor (get_or a i 0) (times f (get_or b i 0))) moved table)
-    ∙ ap (step_by (generator_of g.row.ROOTS) rest) (c.sum-factor.ensures ∙ ap (bit_xor c.args.symbol.number) c.of.ensures)
-    ∙ step_is (generator_of g.row.ROOTS) rest c.args.symbol.number
+    let t = c.args.self.now.generator in
+    let old = c.args.rest.now in
+    let f = c.new-factor.result.symbol.number in
+    let i = g.row.ROOTS - 1 in
+    let new = step_by t old f in
+    let n = length_step t old f (omega arith) (omega arith) in
+    let at : c.loop-i.i ≡ i = omega arith in
+    let more = written_more new old i (omega arith) (omega arith) in
+    let here = get_or_step t old f (omega arith) (omega arith) i (omega arith) in
+    let none = get_or_past old (i + 1) 0 (omega arith) in
+    let own = xor_zero_l c.times.result.number in
+    let all = written_all new old (i + 1) (omega arith) (omega arith) in
+    let is = step_is t old c.args.symbol.number in
+    let table = c.args.self.now.by_roots in
+    cc
